@@ -1,0 +1,145 @@
+-- A fold, of any two places: what the table is made of before and after it, that it keeps the total, keeps rising and leaves each
+-- state in shape. Document 01's choice of places is one of them; it makes the table shorter, so that folds end at K states.
+use mathlib.Core.Path.{_≡_, refl, ap, _∙_}
+use mathlib.Core.Logic.{_≢_}
+use mathlib.Core.Bool.{Bool, true, false}
+use mathlib.Core.List.{List, [], _∷_}
+use Prim.Native.Nat.{ℕ, zero, suc, _+_, _*_, _≤_, _<_, zero-le}
+use native.Mathlib.Nat.{le-refl, le-trans, max-le, pos-of-ne-zero}
+use native.Mathlib.Omega.{arith}
+use lib.Dec.{leb}
+use lib.ListN.{length}
+use lib.Pow.{pow-pos}
+use borrow.Author.Tests.{leb-true, leb-false}
+use Rattle.rules.specs.declared.Pair.{Pair}
+use Rattle.rules.specs.Contents.{size}
+use Rattle.rules.specs.Ordered.{remove, best}
+use Rattle.rules.specs.Table.{State, state, unitsOf, total, stateAt, Work}
+use Rattle.rules.specs.Fold.{fewer, closer, choice, meet, foldAt, fold, foldsOf, folded}
+use Rattle.rules.proofs.Lists.{Every, every-remove, every-at, every-weaker, length-remove, best-lt}
+use Rattle.rules.proofs.Ordered.{in-order-remove}
+use Rattle.rules.proofs.Contents.{size-zero, size-sub, sub-shared-left, shared-lt}
+use Rattle.rules.proofs.Table.{Rising, rising-add, length-add-all, every-add, worthOf, worth, worth-add, worth-remove, one, worth-total}
+use Rattle.rules.proofs.Step.{Loose, Shaped, shaped-plus}
+
+-- ---- the parts of a fold
+
+module _ (p : Pair) (T : List State) where
+  -- the two states, the others, and what the two become
+  abbrev pub firstOf : State
+  firstOf = stateAt T (p .fewest)
+
+  abbrev pub secondOf : State
+  secondOf = stateAt (remove (p .fewest) T) (p .partner)
+
+  abbrev pub othersOf : List State
+  othersOf = remove (p .partner) (remove (p .fewest) T)
+
+  abbrev pub meetOf : State
+  meetOf = meet firstOf secondOf (unitsOf firstOf + unitsOf secondOf)
+
+  -- before: both states and the others
+  pub fold-before : (f : ℕ → ℕ → ℕ) → worthOf f firstOf + (worthOf f secondOf + worth f othersOf) ≡ worth f T
+  fold-before f = ap (worthOf f firstOf +_) (worth-remove f (p .partner) (remove (p .fewest) T)) ∙ worth-remove f (p .fewest) T
+
+  -- after: what they become and the others
+  pub fold-after : (f : ℕ → ℕ → ℕ) (a : ℕ) → worth f (foldAt p (record { table = T; aside = a }) .table) ≡ worthOf f meetOf + worth f othersOf
+  unfolding foldAt
+  fold-after f a = worth-add f (meetOf ∷ []) othersOf ∙ omega arith
+
+pub fold-total : (p : Pair) (w : Work) → total (foldAt p w .table) ≡ total (w .table)
+fold-total p w =
+    rw (← worth-total (foldAt p w .table), ← worth-total (w .table))
+    (omega (arith, fold-before p (w .table) one, fold-after p (w .table) one (w .aside)))
+
+-- ---- its shape
+
+pub rising-fold : (p : Pair) (w : Work) → Rising (w .table) → Rising (foldAt p w .table)
+unfolding foldAt
+rising-fold p w h = rising-add _ _ (in-order-remove _ _ _ (in-order-remove _ _ (w .table) h))
+
+module _ (N k M : ℕ) where
+  pub loose-none : Loose N k M (state 0 0 0)
+  loose-none = record { masked = pow-pos k; few = zero-le; small = omega (arith, size-zero) }
+
+  pub shaped-meet : (s t : State) (u : ℕ) → Loose N k M s → Loose N k M t → u ≢ 0 → Shaped N k M (meet s t u)
+  shaped-meet s t u p q n = (
+    record {
+      masked = shared-lt k (s .mask) (t .mask) (p .masked);
+      few = max-le (p .few) (q .few);
+      small = le-trans (size-sub _ _ (sub-shared-left (s .mask) (t .mask))) (p .small);
+    },
+    pos-of-ne-zero n,
+  )
+
+  -- the state at a place, or none
+  pub loose-at : (i : ℕ) (T : List State) → Every (Shaped N k M) T → Loose N k M (stateAt T i)
+  loose-at i T h = every-at (Loose N k M) (state 0 0 0) loose-none i T (every-weaker (Shaped N k M) (Loose N k M) (λ s p. p .0) T h)
+
+  pub shaped-fold : (p : Pair) (w : Work) → Every (Shaped N k M) (w .table) → Every (Shaped N k M) (foldAt p w .table)
+  unfolding foldAt
+  shaped-fold p w h =
+      every-add (Shaped N k M) (shaped-plus N k M) _ (othersOf p (w .table))
+      (shaped-meet _ _ _ (loose-at (p .fewest) (w .table) h) (loose-at (p .partner) (remove (p .fewest) (w .table)) out), tt)
+      (every-remove (Shaped N k M) (p .partner) (remove (p .fewest) (w .table)) out)
+    where
+      out : Every (Shaped N k M) (remove (p .fewest) (w .table))
+      out = every-remove (Shaped N k M) (p .fewest) (w .table) h
+
+-- ---- folds
+
+-- what a fold of any two places keeps, they keep
+pub folded-keeps : (Q : Work → Type 0) → ((p : Pair) (w : Work) → Q w → Q (foldAt p w)) → (K : ℕ) (w : Work) → Q w → Q (folded K w)
+unfolding folded fold
+folded-keeps Q keep K w h = go (length (w .table)) (leb (length (w .table)) K) w h
+  where
+    go : (n : ℕ) (enough : Bool) (w : Work) → Q w → Q (foldsOf n enough K w)
+    go zero enough w h = h
+    go (suc n) true w h = h
+    go (suc n) false w h = go n (leb (length (fold w .table)) K) (fold w) (keep (choice (w .table)) w h)
+
+pub folded-total : (K : ℕ) (w : Work) → total (folded K w .table) ≡ total (w .table)
+folded-total K w = folded-keeps (λ v. total (v .table) ≡ total (w .table)) (λ p v e. fold-total p v ∙ e) K w refl
+
+pub rising-folded : (K : ℕ) (w : Work) → Rising (w .table) → Rising (folded K w .table)
+rising-folded K w h = folded-keeps (λ v. Rising (v .table)) rising-fold K w h
+
+pub shaped-folded : (N k M K : ℕ) (w : Work) → Every (Shaped N k M) (w .table) → Every (Shaped N k M) (folded K w .table)
+shaped-folded N k M K w h = folded-keeps (λ v. Every (Shaped N k M) (v .table)) (shaped-fold N k M) K w h
+
+-- ---- to K states
+
+fold-shorter : (w : Work) → 1 < length (w .table) → length (fold w .table) < length (w .table)
+unfolding fold foldAt choice
+fold-shorter w l =
+    omega (
+      arith,
+      length-add-all (meetOf p (w .table) ∷ []) (othersOf p (w .table)),
+      first,
+      length-remove (p .partner) (remove i (w .table)) (best-lt (closer (stateAt (w .table) i)) (remove i (w .table)) (omega (arith, first))),
+    )
+  where
+    p : Pair
+    p = choice (w .table)
+
+    i : ℕ
+    i = best fewer (w .table)
+
+    first : suc (length (remove i (w .table))) ≡ length (w .table)
+    first = length-remove i (w .table) (best-lt fewer (w .table) (omega arith))
+
+length-folds : (n K : ℕ) (w : Work) → 0 < K → length (w .table) ≤ n → length (foldsOf n (leb (length (w .table)) K) K w .table) ≤ K
+length-folds zero K w h l = omega arith
+length-folds (suc n) K w h l = go (leb (length (w .table)) K) refl (length-folds n K (fold w) h)
+  where
+    go : (b : Bool) → leb (length (w .table)) K ≡ b
+        → (length (fold w .table) ≤ n → length (foldsOf n (leb (length (fold w .table)) K) K (fold w) .table) ≤ K)
+        → length (foldsOf (suc n) b K w .table) ≤ K
+    go true e ih = leb-true (length (w .table)) K e
+    go false e ih =
+        let many = leb-false (length (w .table)) K e in
+        ih (omega (arith, fold-shorter w (omega arith)))
+
+pub length-folded : (K : ℕ) (w : Work) → 0 < K → length (folded K w .table) ≤ K
+unfolding folded
+length-folded K w h = length-folds (length (w .table)) K w h (le-refl _)

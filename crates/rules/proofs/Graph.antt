@@ -1,0 +1,127 @@
+-- Every node's table is a table: for an accepted input, by induction over the nodes. The finished table is one, of is many misses as
+-- there are accesses at most, so that the questions accept it.
+use mathlib.Core.Path.{_≡_, refl, sym, ap, _∙_, subst}
+use mathlib.Core.Bool.{true}
+use mathlib.Core.List.{List, [], _∷_, _++_}
+use mathlib.Core.Logic.{_⊎_, inl, inr}
+use Prim.Native.Nat.{ℕ, zero, suc, _+_, _-_, _≤_, _<_}
+use native.Mathlib.Nat.{le-refl, min-le-left, eq-or-lt-of-le, le-of-suc-le-suc, not-suc-le-zero}
+use native.Mathlib.Omega.{arith}
+use lib.Dec.{eqb}
+use lib.ListN.{length, getD, take, drop, length-append, length-take, List·getD-append}
+use lib.Seq.{getD-at, take-suc, take-length}
+use borrow.Author.Tests.{eq-eqb}
+use Rattle.basics.specs.Sums.{sumOver}
+use Rattle.basics.proofs.Bools.{or-left, or-right}
+use Rattle.basics.proofs.Sums.{sum-append}
+use Rattle.rules.specs.Contents.{among}
+use Rattle.rules.specs.Input.{Input, nodes, offset, runOf, edgesOf, predecessors}
+use Rattle.rules.specs.Table.{State, begin, Work}
+use Rattle.rules.specs.Run.{run}
+use Rattle.rules.specs.Graph.{Worked, tableAt, joinAll, enter, node, worked, finished}
+use Rattle.rules.proofs.Refusals.{Checked, predecessor-lower}
+use Rattle.rules.proofs.Run.{Table, table-wider, table-begin, table-join, table-run}
+
+-- ---- the nodes that are worked
+
+-- node j's table
+abbrev pub nodeTable : Input → ℕ → List State
+nodeTable i j = node i j (worked i j) .table
+
+length-worked : (i : Input) (n : ℕ) → length (worked i n .tables) ≡ n
+unfolding worked
+length-worked i zero = refl
+length-worked i (suc n) = omega (arith, length-append (worked i n .tables) (nodeTable i n ∷ []), length-worked i n)
+
+-- it stays is it was made
+pub table-stays : (i : Input) (n j : ℕ) → j < n → tableAt (worked i n) j ≡ nodeTable i j
+unfolding worked
+table-stays i zero j l = absurd (not-suc-le-zero l)
+table-stays i (suc n) j l = go (eq-or-lt-of-le (le-of-suc-le-suc l)) (table-stays i n j)
+  where
+    go : (j ≡ n) ⊎ (j < n) → (j < n → tableAt (worked i n) j ≡ nodeTable i j)
+        → getD (worked i n .tables ++ (nodeTable i n ∷ [])) j [] ≡ nodeTable i j
+    go (inl e) ih = rw e (getD-at (worked i n .tables) (nodeTable i n) [] [] n (length-worked i n))
+    go (inr k) ih = List·getD-append (worked i n .tables) (nodeTable i n ∷ []) [] j (omega (arith, length-worked i n)) ∙ ih k
+
+pub finished-table : (i : Input) → 0 < nodes i → finished i .table ≡ nodeTable i (nodes i - 1)
+unfolding finished
+finished-table i h = table-stays i (nodes i) (nodes i - 1) (omega arith)
+
+-- ---- what each starts from
+
+-- what is so of the first and of each of the others
+pub first-and-others : (P : ℕ → Type 0) (a : ℕ) (is : List ℕ) → ((j : ℕ) → among (a ∷ is) j ≡ true → P j) → P a × ((j : ℕ) → among is j ≡ true → P j)
+first-and-others P a is h = (h a (or-left (eqb a a) _ (eq-eqb a a refl)), λ j e. h j (or-right (eqb a j) (among is j) e))
+
+module _ (N k K : ℕ) (some : 0 < N) (room : 0 < K) (M : ℕ) (d : Worked) where
+  pub table-joinAll : (is : List ℕ) (w : Work) → ((j : ℕ) → among is j ≡ true → Table N k K M (tableAt d j))
+      → Table N k K M (w .table) → Table N k K M (joinAll K d is w .table)
+  unfolding joinAll
+  table-joinAll [] w h t = t
+  table-joinAll (a ∷ is) w h t =
+      let (p, q) = first-and-others (λ j. Table N k K M (tableAt d j)) a is h in
+      table-joinAll is _ q (table-join N k K some room M (w .table) (tableAt d a) (w .aside) t p)
+
+  pub table-enter : (is : List ℕ) → ((j : ℕ) → among is j ≡ true → Table N k K M (tableAt d j)) → Table N k K M (enter K d is .table)
+  unfolding enter
+  table-enter [] h = table-wider N k K 0 M begin (omega arith) (table-begin N k K some room)
+  table-enter (a ∷ is) h =
+      let (p, q) = first-and-others (λ j. Table N k K M (tableAt d j)) a is h in
+      table-joinAll is _ q p
+
+-- ---- every node
+
+-- the run of a node is no longer than its length says
+pub length-runOf : (i : Input) (j : ℕ) → length (runOf i j) ≤ getD (i .lengths) j 0
+unfolding runOf
+length-runOf i j =
+    rw (length-take (getD (i .lengths) j 0) (drop (offset (i .lengths) j) (i .accesses))) (min-le-left _ _)
+
+-- the next run starts behind this one
+offset-next : (lengths : List ℕ) (j : ℕ) → j < length lengths → offset lengths (suc j) ≡ getD lengths j 0 + offset lengths j
+unfolding offset
+offset-next lengths j l =
+    ap (sumOver (λ n. n)) (take-suc lengths j 0 l) ∙ sum-append (λ n. n) (take j lengths) (getD lengths j 0 ∷ []) ∙ omega arith
+
+module _ (i : Input) (ok : Checked i) where
+  abbrev pub NodeTable : ℕ → ℕ → Type 0
+  NodeTable M j = Table (i .ways) (length (i .tracked)) (i .limit) M (nodeTable i j)
+
+  -- a node whose predecessors' tables are tables
+  table-node : (n : ℕ) → n < nodes i → ((j : ℕ) → j < n → NodeTable (offset (i .lengths) n) j) → NodeTable (offset (i .lengths) (suc n)) n
+  unfolding node
+  table-node n l h =
+      table-wider N k K _ _ _ (omega (arith, length-runOf i n, offset-next (i .lengths) n l))
+      (table-run N K (i .tracked) (ok .some-ways) (ok .some-states) M (runOf i n) _
+      (table-enter N k K (ok .some-ways) (ok .some-states) M (worked i n) (predecessors (edgesOf (i .edges)) n)
+      (λ j e. let j<n = predecessor-lower i ok j n e .0 in rw (table-stays i n j j<n) (h j j<n))))
+    where
+      N : ℕ
+      N = i .ways
+
+      k : ℕ
+      k = length (i .tracked)
+
+      K : ℕ
+      K = i .limit
+
+      M : ℕ
+      M = offset (i .lengths) n
+
+  -- the misses of the first n nodes are at most the accesses of their runs
+  every-node : (n : ℕ) → n ≤ nodes i → (j : ℕ) → j < n → NodeTable (offset (i .lengths) n) j
+  every-node zero l j k = absurd (not-suc-le-zero k)
+  every-node (suc n) l j k = go (eq-or-lt-of-le (le-of-suc-le-suc k)) (every-node n (omega arith))
+    where
+      go : (j ≡ n) ⊎ (j < n) → ((j : ℕ) → j < n → NodeTable (offset (i .lengths) n) j) → NodeTable (offset (i .lengths) (suc n)) j
+      go (inl e) ih = rw e (table-node n l ih)
+      go (inr h) ih = table-wider _ _ _ _ _ _ (omega (arith, offset-next (i .lengths) n l)) (ih j h)
+
+  -- in all, at most the accesses
+  pub node-table : (j : ℕ) → j < nodes i → NodeTable (length (i .accesses)) j
+  unfolding offset
+  node-table j l = subst (λ (M : ℕ). NodeTable M j) (all ∙ ok .all-accesses) (every-node (nodes i) (le-refl _) j l)
+    where
+      all : offset (i .lengths) (nodes i) ≡ sumOver (λ n. n) (i .lengths)
+      all = ap (sumOver (λ n. n)) (take-length (i .lengths))

@@ -1,0 +1,23 @@
+-- Units
+pub mod Splitting
+-- Lists
+pub mod Lists
+-- Contents
+pub mod Bits
+pub mod Contents
+pub mod Lookup
+-- Tables
+pub mod Ordered
+pub mod Table
+pub mod Step
+pub mod Fold
+pub mod Join
+-- Accepted inputs
+pub mod Refusals
+-- The tables of runs and graphs
+pub mod Run
+pub mod Graph
+-- The questions
+pub mod Questions
+-- The worked numbers of document 01
+pub mod WorkedNumbers

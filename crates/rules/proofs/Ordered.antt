@@ -1,0 +1,179 @@
+-- Insertion into a list in an order, over any element: what stays true of every element, what is summed, how long the list gets,
+-- and that it keeps rising. Then the order of states, by mask and misses.
+use mathlib.Core.Path.{_≡_, refl, sym, ap, _∙_}
+use mathlib.Core.Logic.{_⊎_, inl, inr}
+use mathlib.Core.Bool.{Bool, true, false, cond, true≢false}
+use mathlib.Core.List.{List, [], _∷_}
+use Prim.Native.Nat.{ℕ, zero, suc, _+_, _≤_, _<_}
+use native.Mathlib.Omega.{arith}
+use lib.Dec.{eqb, ltb}
+use lib.ListN.{length}
+use borrow.Author.Tests.{ltb-true, ltb-false, eqb-true, eqb-false, lt-ltb, le-ltb, eq-eqb}
+use Rattle.basics.specs.Sums.{sumOver}
+use Rattle.rules.specs.Ordered.{Order, before, same, after, byNumber, thenBy, isBefore, rises, inserted, insert, insertAll, remove}
+use Rattle.rules.specs.Table.{State, order, plus}
+use Rattle.rules.proofs.Lists.{Every, every-weaker, every-remove}
+
+-- ---- insertion
+
+module _ {A : Type 0} (order : A → A → Order) (plus : A → A → A) where
+  pub length-insert : (s : A) (T : List A) → length (insert order plus s T) ≤ suc (length T)
+  unfolding insert
+  length-insert s [] = omega arith
+  length-insert s (t ∷ T) = go (order s t) (length-insert s T)
+    where
+      go : (o : Order) → length (insert order plus s T) ≤ suc (length T)
+          → length (inserted order plus o s t T (insert order plus s T)) ≤ suc (suc (length T))
+      go before h = omega arith
+      go same h = omega arith
+      go after h = omega arith
+
+  pub length-insertAll : (S T : List A) → length (insertAll order plus S T) ≤ length S + length T
+  unfolding insertAll
+  length-insertAll [] T = omega arith
+  length-insertAll (s ∷ S) T = omega (arith, length-insertAll S (insert order plus s T), length-insert s T)
+
+  -- a property that adding does not break
+  module _ (P : A → Type 0) (lasts : (t s : A) → P t → P (plus t s)) where
+    pub every-insert : (s : A) (T : List A) → P s → Every P T → Every P (insert order plus s T)
+    unfolding insert
+    every-insert s [] h a = (h, tt)
+    every-insert s (t ∷ T) h a = go (order s t) (every-insert s T h (a .1))
+      where
+        go : (o : Order) → Every P (insert order plus s T) → Every P (inserted order plus o s t T (insert order plus s T))
+        go before b = (h, a)
+        go same b = (lasts t s (a .0), a .1)
+        go after b = (a .0, b)
+
+    pub every-insertAll : (S T : List A) → Every P S → Every P T → Every P (insertAll order plus S T)
+    unfolding insertAll
+    every-insertAll [] T h a = a
+    every-insertAll (s ∷ S) T h a = every-insertAll S (insert order plus s T) (h .1) (every-insert s T (h .0) a)
+
+  -- a sum to which adding adds
+  module _ (F : A → ℕ) (adds : (s t : A) → order s t ≡ same → F (plus t s) ≡ F t + F s) where
+    pub sum-insert : (s : A) (T : List A) → sumOver F (insert order plus s T) ≡ F s + sumOver F T
+    unfolding insert
+    sum-insert s [] = refl
+    sum-insert s (t ∷ T) = go (order s t) refl (sum-insert s T)
+      where
+        go : (o : Order) → order s t ≡ o → sumOver F (insert order plus s T) ≡ F s + sumOver F T
+            → sumOver F (inserted order plus o s t T (insert order plus s T)) ≡ F s + sumOver F (t ∷ T)
+        go before e ih = refl
+        go same e ih = omega (arith, adds s t e)
+        go after e ih = omega arith
+
+    pub sum-insertAll : (S T : List A) → sumOver F (insertAll order plus S T) ≡ sumOver F S + sumOver F T
+    unfolding insertAll
+    sum-insertAll [] T = omega arith
+    sum-insertAll (s ∷ S) T = omega (arith, sum-insertAll S (insert order plus s T), sum-insert s T)
+
+-- ---- rising
+
+module _ {A : Type 0} (order : A → A → Order) where
+  -- each stands before all that follow it
+  abbrev pub InOrder : List A → Type 0
+  InOrder [] = Unit {0}
+  InOrder (s ∷ T) = Every (λ t. order s t ≡ before) T × InOrder T
+
+  pub in-order-rises : (T : List A) → InOrder T → rises order T ≡ true
+  in-order-rises [] h = refl
+  in-order-rises (s ∷ []) h = refl
+  in-order-rises (s ∷ t ∷ T) h = rw (h .0 .0) (in-order-rises (t ∷ T) (h .1))
+
+  pub in-order-remove : (i : ℕ) (T : List A) → InOrder T → InOrder (remove i T)
+  unfolding remove
+  in-order-remove i [] h = tt
+  in-order-remove zero (t ∷ T) h = h .1
+  in-order-remove (suc i) (t ∷ T) h = (every-remove (λ u. order t u ≡ before) i T (h .0), in-order-remove i T (h .1))
+
+  -- what an order is, and that adding leaves an element in its place
+  pub record Sorts (plus : A → A → A) : Type 0 where
+    pub onward : (s t u : A) → order s t ≡ before → order t u ≡ before → order s u ≡ before
+    pub turned : (s t : A) → order s t ≡ after → order t s ≡ before
+    pub placed-left : (t s u : A) → order (plus t s) u ≡ order t u
+    pub placed-right : (u t s : A) → order u (plus t s) ≡ order u t
+
+  module _ (plus : A → A → A) (sorts : Sorts plus) where
+    pub in-order-insert : (s : A) (T : List A) → InOrder T → InOrder (insert order plus s T)
+    unfolding insert
+    in-order-insert s [] h = (tt, tt)
+    in-order-insert s (t ∷ T) h = go (order s t) refl (in-order-insert s T (h .1))
+      where
+        go : (o : Order) → order s t ≡ o → InOrder (insert order plus s T) → InOrder (inserted order plus o s t T (insert order plus s T))
+        go before e a =
+            ((e, every-weaker (λ u. order t u ≡ before) (λ u. order s u ≡ before) (λ u. sorts .onward s t u e) T (h .0)), h)
+        go same e a =
+            (every-weaker (λ u. order t u ≡ before) (λ u. order (plus t s) u ≡ before) (λ u b. sorts .placed-left t s u ∙ b) T (h .0), h .1)
+        go after e a =
+            (every-insert order plus (λ u. order t u ≡ before) (λ u v b. sorts .placed-right t u v ∙ b) s T (sorts .turned s t e) (h .0), a)
+
+    pub in-order-insertAll : (S T : List A) → InOrder T → InOrder (insertAll order plus S T)
+    unfolding insertAll
+    in-order-insertAll [] T h = h
+    in-order-insertAll (s ∷ S) T h = in-order-insertAll S (insert order plus s T) (in-order-insert s T h)
+
+-- ---- two numbers
+
+number-cases : (a b : ℕ) (P : Order → Type 0) → (a < b → P before) → (a ≡ b → P same) → (b < a → P after) → P (byNumber a b)
+number-cases a b P f g h = go (ltb a b) (eqb a b) refl refl
+  where
+    go : (l e : Bool) → ltb a b ≡ l → eqb a b ≡ e → P (cond l before (cond e same after))
+    go true e p q = f (ltb-true a b p)
+    go false true p q = g (eqb-true a b q)
+    go false false p q = let n : a ≡ b → ⊥ = eqb-false a b q in h (omega (arith, ltb-false a b p, n))
+
+number-before : (a b : ℕ) → a < b → byNumber a b ≡ before
+number-before a b l = rw (lt-ltb a b l)
+
+number-same : (a b : ℕ) → a ≡ b → byNumber a b ≡ same
+number-same a b e = rw (le-ltb a b (omega arith), eq-eqb a b e)
+
+-- ---- the order of states
+
+-- before by mask, or by misses where the masks are equal
+abbrev Less : State → State → Type 0
+Less s t = (s .mask < t .mask) ⊎ ((s .mask ≡ t .mask) × (s .misses < t .misses))
+
+-- what the order says of two states
+abbrev Said : State → State → Order → Type 0
+Said s t before = Less s t
+Said s t same = (s .mask ≡ t .mask) × (s .misses ≡ t .misses)
+Said s t after = Less t s
+
+order-says : (s t : State) → Said s t (order s t)
+unfolding order
+order-says s t =
+    number-cases (s .mask) (t .mask) (λ o. Said s t (thenBy o (byNumber (s .misses) (t .misses)))) inl
+    (λ e. number-cases (s .misses) (t .misses) (Said s t) (λ l. inr (e, l)) (λ d. (e, d)) (λ l. inr (sym e, l)))
+    inl
+
+order-before : (s t : State) → order s t ≡ before → Less s t
+order-before s t e = rw e at (order-says s t)
+
+pub order-same : (s t : State) → order s t ≡ same → (s .mask ≡ t .mask) × (s .misses ≡ t .misses)
+order-same s t e = rw e at (order-says s t)
+
+order-after : (s t : State) → order s t ≡ after → Less t s
+order-after s t e = rw e at (order-says s t)
+
+less-before : (s t : State) → Less s t → order s t ≡ before
+unfolding order
+less-before s t (inl l) = rw (number-before (s .mask) (t .mask) l)
+less-before s t (inr (e, l)) = rw (number-same (s .mask) (t .mask) e, number-before (s .misses) (t .misses) l)
+
+less-trans : (s t u : State) → Less s t → Less t u → Less s u
+less-trans s t u (inl a) (inl b) = inl (omega arith)
+less-trans s t u (inl a) (inr b) = inl (omega arith)
+less-trans s t u (inr a) (inl b) = inl (omega arith)
+less-trans s t u (inr a) (inr b) = inr (omega arith)
+
+pub states-sort : Sorts order plus
+unfolding order
+states-sort =
+    record {
+      onward = λ s t u a b. less-before s u (less-trans s t u (order-before s t a) (order-before t u b));
+      turned = λ s t e. less-before t s (order-after s t e);
+      placed-left = λ t s u. refl;
+      placed-right = λ u t s. refl;
+    }

@@ -1,0 +1,151 @@
+-- What an accepted input is: none of section 5's reasons applies to it. Each fact here is one of those tests, turned round.
+use mathlib.Core.Path.{_≡_, refl, sym, _∙_}
+use mathlib.Core.Logic.{_≢_, _⊎_, inl, inr}
+use mathlib.Core.Bool.{Bool, true, false, cond, _||_, _&&_, not, true≢false}
+use mathlib.Core.List.{List, [], _∷_}
+use Prim.Native.Nat.{ℕ, _≤_, _<_}
+use native.Mathlib.Omega.{arith}
+use lib.Dec.{eqb, ltb}
+use lib.ListN.{length}
+use borrow.Author.Tests.{ltb-true, ltb-false, eqb-true, not-false}
+use Rattle.basics.specs.Sums.{sumOver}
+use Rattle.basics.proofs.Bools.{and-left, and-right, or-cases, not-left, not-right}
+use Rattle.rules.specs.declared.Refusal.{Refusal}
+use Rattle.rules.specs.declared.Refusal.the-variants.{Text, Ways, Limit, Tracked, Accesses, Graph, Room, Row, SpreadRoom}
+use Rattle.rules.specs.declared.Verdict.{Verdict}
+use Rattle.rules.specs.declared.Verdict.the-variants.{Accepted, Refused}
+use Rattle.rules.specs.Answers.{numberOf, verdictSays, outcomeSays}
+use Rattle.rules.specs.Contents.{among, once}
+use Rattle.rules.specs.Ordered.{rises}
+use Rattle.rules.specs.Input.{Input, nodes, Edge, edgesOf, predecessors}
+use Rattle.rules.specs.Refusals.{outside, forward, inPairs, edgeOrder, entered, left, edgesKept, Reason, reasons, first, verdict, answered, outcome}
+use Rattle.rules.proofs.Lists.{Every}
+
+-- ---- no reason applies
+
+numbered : (r : Refusal) → numberOf r ≢ 0
+numbered Text e = omega arith
+numbered Ways e = omega arith
+numbered Limit e = omega arith
+numbered Tracked e = omega arith
+numbered Accesses e = omega arith
+numbered Graph e = omega arith
+numbered Room e = omega arith
+numbered Row e = omega arith
+numbered SpreadRoom e = omega arith
+
+none-applies : (rs : List Reason) → verdictSays (first rs) ≡ 0 → Every (λ r. r .applies ≡ false) rs
+none-applies [] h = tt
+none-applies (r ∷ rs) h = go (r .applies) refl h (none-applies rs)
+  where
+    go : (b : Bool) → r .applies ≡ b → verdictSays (cond b (Refused (r .gives)) (first rs)) ≡ 0
+        → (verdictSays (first rs) ≡ 0 → Every (λ r. r .applies ≡ false) rs) → Every (λ r. r .applies ≡ false) (r ∷ rs)
+    go true e h rest = absurd (numbered (r .gives) h)
+    go false e h rest = (e, rest h)
+
+-- ---- what is then known
+
+pub record Checked (i : Input) : Type 0 where
+  pub some-ways : 0 < i .ways
+  pub few-ways : i .ways ≤ 16
+  pub some-states : 0 < i .limit
+  pub few-states : i .limit ≤ 64
+  pub few-tracked : length (i .tracked) ≤ 16
+  pub distinct : once (i .tracked) ≡ true
+  pub few-accesses : length (i .accesses) ≤ 4096
+  pub some-nodes : 0 < nodes i
+  pub few-nodes : nodes i ≤ 64
+  pub all-accesses : sumOver (λ n. n) (i .lengths) ≡ length (i .accesses)
+  pub edges-kept : edgesKept (nodes i) (i .edges) ≡ true
+  pub result-room : i .limit ≤ i .resultRoom
+  pub working-room : 5184 ≤ i .workingRoom
+
+within : (low high n : ℕ) → outside low high n ≡ false → (low ≤ n) × (n ≤ high)
+within low high n h =
+    (ltb-false n low (not-left (ltb n low) (ltb high n) h), ltb-false high n (not-right (ltb n low) (ltb high n) h))
+
+-- an input is accepted where the call's answer carries no refusal's number
+pub accepted : (i : Input) → outcomeSays (outcome i) .number ≡ 0 → Checked i
+unfolding outcome verdict reasons
+accepted i h =
+    let (w, (k, (t, (a, (g, (r, _)))))) = none-applies (reasons i) (says (first (reasons i)) h) in
+    let ways = within 1 16 (i .ways) w in
+    let limit = within 1 64 (i .limit) k in
+    let g₁ = not-left (unnumbered || uneven) broken g in
+    let count = within 1 64 (nodes i) (not-left unnumbered uneven g₁) in
+    record {
+      some-ways = ways .0;
+      few-ways = ways .1;
+      some-states = limit .0;
+      few-states = limit .1;
+      few-tracked = ltb-false 16 (length (i .tracked)) (not-left crowded twice t);
+      distinct = not-false _ (not-right crowded twice t);
+      few-accesses = ltb-false 4096 (length (i .accesses)) a;
+      some-nodes = count .0;
+      few-nodes = count .1;
+      all-accesses = eqb-true _ _ (not-false _ (not-right unnumbered uneven g₁));
+      edges-kept = not-false _ (not-right (unnumbered || uneven) broken g);
+      result-room = ltb-false (i .resultRoom) (i .limit) (not-left small-result small-working r);
+      working-room = ltb-false (i .workingRoom) 5184 (not-right small-result small-working r);
+    }
+  where
+    crowded : Bool
+    crowded = ltb 16 (length (i .tracked))
+
+    twice : Bool
+    twice = not (once (i .tracked))
+
+    unnumbered : Bool
+    unnumbered = outside 1 64 (nodes i)
+
+    uneven : Bool
+    uneven = not (eqb (sumOver (λ n. n) (i .lengths)) (length (i .accesses)))
+
+    broken : Bool
+    broken = not (edgesKept (nodes i) (i .edges))
+
+    small-result : Bool
+    small-result = ltb (i .resultRoom) (i .limit)
+
+    small-working : Bool
+    small-working = ltb (i .workingRoom) 5184
+
+    says : (v : Verdict) → outcomeSays (answered v i) .number ≡ 0 → verdictSays v ≡ 0
+    says Accepted h = refl
+    says (Refused r) h = h
+
+-- ---- edges
+
+forward-pred : (n : ℕ) (es : List Edge) → forward n es ≡ true → (i j : ℕ) → among (predecessors es j) i ≡ true → (i < j) × (j < n)
+unfolding predecessors
+forward-pred n [] h i j e = absurd (true≢false (sym e))
+forward-pred n (x ∷ es) h i j e =
+    go (forward-pred n es (and-right (ltb (x .from) (x .to) && ltb (x .to) n) (forward n es) h) i j) (eqb (x .to) j) refl e
+  where
+    here : (ltb (x .from) (x .to) && ltb (x .to) n) ≡ true
+    here = and-left (ltb (x .from) (x .to) && ltb (x .to) n) (forward n es) h
+
+    up : x .from < x .to
+    up = ltb-true (x .from) (x .to) (and-left (ltb (x .from) (x .to)) _ here)
+
+    in-range : x .to < n
+    in-range = ltb-true (x .to) n (and-right (ltb (x .from) (x .to)) _ here)
+
+    go : (among (predecessors es j) i ≡ true → (i < j) × (j < n)) → (a : Bool) → eqb (x .to) j ≡ a
+        → among (cond a (x .from ∷ predecessors es j) (predecessors es j)) i ≡ true → (i < j) × (j < n)
+    go rest false t q = rest q
+    go rest true t q = pick (or-cases (eqb (x .from) i) (among (predecessors es j) i) q)
+      where
+        to : x .to ≡ j
+        to = eqb-true (x .to) j t
+
+        pick : (eqb (x .from) i ≡ true) ⊎ (among (predecessors es j) i ≡ true) → (i < j) × (j < n)
+        pick (inl s) = let from : x .from ≡ i = eqb-true (x .from) i s in omega (arith, up, in-range, to)
+        pick (inr s) = rest s
+
+-- an edge comes from a lower node, and leads to a node
+pub predecessor-lower : (i : Input) → Checked i → (a j : ℕ) → among (predecessors (edgesOf (i .edges)) j) a ≡ true → (a < j) × (j < nodes i)
+unfolding edgesKept
+predecessor-lower i ok a j e =
+    forward-pred (nodes i) (edgesOf (i .edges))
+    (and-right (inPairs (i .edges)) _ (and-left _ _ (and-left _ _ (and-left _ _ (ok .edges-kept))))) a j e

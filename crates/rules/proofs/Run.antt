@@ -1,0 +1,100 @@
+-- What every table of the work is: rising, at most K states, each in shape, units totalling WHOLE. The start is one, and an access
+-- with its folds, a run and a join with its folds make one of one.
+use mathlib.Core.Path.{_≡_, refl, sym, _∙_}
+use mathlib.Core.Bool.{true}
+use mathlib.Core.List.{List, [], _∷_}
+use Prim.Native.Nat.{ℕ, suc, _+_, _≤_, _<_}
+use native.Mathlib.Nat.{le-trans, zero-add, suc-add, add-suc}
+use native.Mathlib.Omega.{arith}
+use lib.ListN.{length}
+use lib.Pow.{pow-pos}
+use Rattle.rules.specs.Units.{whole}
+use Rattle.rules.specs.Contents.{Place, size, find}
+use Rattle.rules.specs.Table.{State, begin, total, Work}
+use Rattle.rules.specs.Step.{access}
+use Rattle.rules.specs.Fold.{folded}
+use Rattle.rules.specs.Run.{advance, run}
+use Rattle.rules.specs.Join.{join}
+use Rattle.rules.proofs.Lists.{Every, every-weaker}
+use Rattle.rules.proofs.Contents.{size-zero}
+use Rattle.rules.proofs.Lookup.{find-at}
+use Rattle.rules.proofs.Table.{Rising, rising-add}
+use Rattle.rules.proofs.Step.{Loose, Shaped, Listed, access-shaped, access-total}
+use Rattle.rules.proofs.Fold.{rising-folded, shaped-folded, folded-total, length-folded}
+use Rattle.rules.proofs.Join.{rising-join, shaped-join, join-total}
+
+-- no contents hold more blocks than there are ways
+abbrev pub Fits : ℕ → List State → Type 0
+Fits N T = Every (λ s. size (s .mask) ≤ N) T
+
+pub fits-shaped : (N k M : ℕ) (T : List State) → Every (Shaped N k M) T → Fits N T
+fits-shaped N k M T h = every-weaker (Shaped N k M) (λ s. size (s .mask) ≤ N) (λ s p. p .0 .small) T h
+
+-- N ways, k tracked blocks, at most K states, after at most M accesses
+pub record Table (N k K M : ℕ) (T : List State) : Type 0 where
+  pub rises : Rising T
+  pub short : length T ≤ K
+  pub shaped : Every (Shaped N k M) T
+  pub full : total T ≡ whole
+
+pub table-fits : (N k K M : ℕ) (T : List State) → Table N k K M T → Fits N T
+table-fits N k K M T t = fits-shaped N k M T (t .shaped)
+
+pub table-wider : (N k K M L : ℕ) (T : List State) → M ≤ L → Table N k K M T → Table N k K L T
+table-wider N k K M L T l t =
+    record {
+      rises = t .rises;
+      short = t .short;
+      shaped = every-weaker (Shaped N k M) (Shaped N k L)
+          (λ s p. (record { masked = p .0 .masked; few = le-trans (p .0 .few) l; small = p .0 .small }, p .1)) T (t .shaped);
+      full = t .full;
+    }
+
+module _ (N k K : ℕ) (some : 0 < N) (room : 0 < K) where
+  pub table-begin : Table N k K 0 begin
+  unfolding total
+  table-begin =
+      record {
+        rises = (tt, tt);
+        short = omega arith;
+        shaped = ((record { masked = pow-pos k; few = omega arith; small = omega (arith, size-zero) }, omega arith), tt);
+        full = refl;
+      }
+
+  -- folds make a table of more than K states
+  pub table-folded : (M : ℕ) (w : Work) → Rising (w .table) → Every (Shaped N k M) (w .table) → total (w .table) ≡ whole
+      → Table N k K M (folded K w .table)
+  table-folded M w r s e =
+      record {
+        rises = rising-folded K w r;
+        short = length-folded K w room;
+        shaped = shaped-folded N k M K w s;
+        full = folded-total K w ∙ e;
+      }
+
+  rising-access : (x : Place) (T : List State) → Rising (access N x T)
+  unfolding access
+  rising-access x T = rising-add _ [] tt
+
+  pub table-advance : (M : ℕ) (x : Place) (w : Work) → Listed k x → Table N k K M (w .table) → Table N k K (suc M) (advance N K x w .table)
+  unfolding advance
+  table-advance M x w l t =
+      table-folded (suc M) _ (rising-access x (w .table)) (access-shaped N k M x some l (w .table) (t .shaped))
+      (access-total N x (w .table) some (table-fits N k K M (w .table) t) ∙ t .full)
+
+  pub table-join : (M : ℕ) (S T : List State) (a : ℕ) → Table N k K M S → Table N k K M T
+      → Table N k K M (folded K (record { table = join S T; aside = a }) .table)
+  table-join M S T a s t =
+      table-folded M _ (rising-join S T) (shaped-join N k M S T (s .shaped) (t .shaped)) (join-total S T (s .full ∙ sym (t .full)) ∙ s .full)
+
+-- a block that is looked up stands at one of the places, or at none
+pub find-listed : (ts : List ℕ) (b : ℕ) → Listed (length ts) (find ts b)
+find-listed ts b i e = find-at ts b i e .0
+
+module _ (N K : ℕ) (ts : List ℕ) (some : 0 < N) (room : 0 < K) where
+  pub table-run : (M : ℕ) (bs : List ℕ) (w : Work) → Table N (length ts) K M (w .table) → Table N (length ts) K (length bs + M) (run N K ts bs w .table)
+  unfolding run
+  table-run M [] w t = rw (zero-add M) t
+  table-run M (b ∷ bs) w t =
+      rw (suc-add (length bs) M, ← add-suc (length bs) M)
+      (table-run (suc M) bs (advance N K (find ts b) w) (table-advance N (length ts) K some room M (find ts b) w (find-listed ts b) t))

@@ -1,0 +1,108 @@
+-- States added to a table: it keeps rising, it grows by no more states than are listed, each state keeps what adding does not
+-- break, and it is worth what both were. The worth of a table is its units, each times a weight that goes with the contents and the
+-- misses of its state: with the weight 1 the total, with others what a promise is about.
+use mathlib.Core.Path.{_≡_, refl, ap, ap₂, _∙_}
+use mathlib.Core.Logic.{_≢_}
+use mathlib.Core.Bool.{Bool, true, false, cond}
+use mathlib.Core.List.{List, [], _∷_, _++_}
+use Prim.Native.Nat.{ℕ, zero, suc, _+_, _*_, _≤_}
+use native.Mathlib.Omega.{arith}
+use lib.Dec.{eqb}
+use lib.ListN.{length, length-append}
+use borrow.Author.Tests.{eqb-true, eqb-false, eq-eqb}
+use Rattle.basics.specs.Sums.{sumOver}
+use Rattle.rules.specs.Ordered.{same, remove}
+use Rattle.rules.specs.Table.{State, state, unitsOf, order, rising, plus, listed, add, total, stateAt}
+use Rattle.rules.proofs.Lists.{Every}
+use Rattle.rules.proofs.Ordered.{length-insertAll, every-insertAll, sum-insertAll, InOrder, in-order-rises, in-order-insertAll, order-same, states-sort}
+
+-- ---- states of 0 units vanish
+
+pub length-listed : (S : List State) → length (listed S) ≤ length S
+length-listed [] = omega arith
+length-listed (s ∷ S) = go (eqb (unitsOf s) 0) (length-listed S)
+  where
+    go : (b : Bool) → length (listed S) ≤ length S → length (cond b (listed S) (s ∷ listed S)) ≤ suc (length S)
+    go true h = omega arith
+    go false h = omega arith
+
+pub length-listed-append : (S T : List State) → length (listed (S ++ T)) ≡ length (listed S) + length (listed T)
+length-listed-append [] T = omega arith
+length-listed-append (s ∷ S) T = go (eqb (unitsOf s) 0) (length-listed-append S T)
+  where
+    go : (b : Bool) → length (listed (S ++ T)) ≡ length (listed S) + length (listed T)
+        → length (cond b (listed (S ++ T)) (s ∷ listed (S ++ T))) ≡ length (cond b (listed S) (s ∷ listed S)) + length (listed T)
+    go true h = h
+    go false h = omega arith
+
+every-listed : (P : State → Type 0) (S : List State) → Every (λ s. unitsOf s ≢ 0 → P s) S → Every P (listed S)
+every-listed P [] h = tt
+every-listed P (s ∷ S) h = go (eqb (unitsOf s) 0) refl (every-listed P S (h .1))
+  where
+    go : (b : Bool) → eqb (unitsOf s) 0 ≡ b → Every P (listed S) → Every P (cond b (listed S) (s ∷ listed S))
+    go true e a = a
+    go false e a = (h .0 (eqb-false (unitsOf s) 0 e), a)
+
+-- ---- adding
+
+abbrev pub Rising : List State → Type 0
+Rising T = InOrder order T
+
+pub rising-is : (T : List State) → Rising T → rising T ≡ true
+rising-is T h = in-order-rises order T h
+
+pub rising-add : (S T : List State) → Rising T → Rising (add S T)
+unfolding add
+rising-add S T h = in-order-insertAll order plus states-sort (listed S) T h
+
+pub length-add : (S T : List State) → length (add S T) ≤ length (listed S) + length T
+unfolding add
+length-add S T = length-insertAll order plus (listed S) T
+
+pub length-add-all : (S T : List State) → length (add S T) ≤ length S + length T
+length-add-all S T = omega (arith, length-add S T, length-listed S)
+
+pub every-add : (P : State → Type 0) → ((t s : State) → P t → P (plus t s)) → (S T : List State)
+    → Every (λ s. unitsOf s ≢ 0 → P s) S → Every P T → Every P (add S T)
+unfolding add
+every-add P lasts S T h a = every-insertAll order plus P lasts (listed S) T (every-listed P S h) a
+
+-- ---- worth
+
+abbrev pub worthOf : (ℕ → ℕ → ℕ) → State → ℕ
+worthOf f s = unitsOf s * f (s .mask) (s .misses)
+
+abbrev pub worth : (ℕ → ℕ → ℕ) → List State → ℕ
+worth f T = sumOver (worthOf f) T
+
+worth-listed : (f : ℕ → ℕ → ℕ) (S : List State) → worth f (listed S) ≡ worth f S
+worth-listed f [] = refl
+worth-listed f (s ∷ S) = go (eqb (unitsOf s) 0) refl (worth-listed f S)
+  where
+    go : (b : Bool) → eqb (unitsOf s) 0 ≡ b → worth f (listed S) ≡ worth f S
+        → worth f (cond b (listed S) (s ∷ listed S)) ≡ worthOf f s + worth f S
+    go true e h = rw (eqb-true (unitsOf s) 0 e) (omega arith)
+    go false e h = ap (worthOf f s +_) h
+
+pub worth-add : (f : ℕ → ℕ → ℕ) (S T : List State) → worth f (add S T) ≡ worth f S + worth f T
+unfolding add
+worth-add f S T = sum-insertAll order plus (worthOf f) adds (listed S) T ∙ ap (_+ worth f T) (worth-listed f S)
+  where
+    adds : (s t : State) → order s t ≡ same → worthOf f (plus t s) ≡ worthOf f t + worthOf f s
+    adds s t e = let (p, q) = order-same s t e in rw (p, q) (omega arith)
+
+-- a state taken out; one that is not there has no units
+pub worth-remove : (f : ℕ → ℕ → ℕ) (i : ℕ) (T : List State) → worthOf f (stateAt T i) + worth f (remove i T) ≡ worth f T
+unfolding remove
+worth-remove f i [] = omega arith
+worth-remove f zero (t ∷ T) = refl
+worth-remove f (suc i) (t ∷ T) = omega (arith, worth-remove f i T)
+
+-- the weight 1 gives the total
+abbrev pub one : ℕ → ℕ → ℕ
+one C m = 1
+
+pub worth-total : (T : List State) → worth one T ≡ total T
+unfolding total
+worth-total [] = refl
+worth-total (s ∷ T) = omega (arith, worth-total T)

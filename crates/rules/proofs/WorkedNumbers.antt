@@ -1,0 +1,91 @@
+-- The numbers worked by hand, document 01, section 6, [P]: one table of inputs and what comes out, and one statement about the
+-- definitions: each comes out as it was worked.
+use mathlib.Core.Path.{_≡_, refl}
+use mathlib.Core.List.{List, [], _∷_, map, flatMap}
+use Prim.Native.Nat.{ℕ, _^_, _*_}
+use Rattle.rules.specs.Units.{whole, more}
+use Rattle.rules.specs.Answers.{OutcomeSays, outcomeSays}
+use Rattle.rules.specs.Contents.{places, find, bit, with, without, shared, heldBelow, held, size}
+use Rattle.rules.specs.Input.{Input, offset, runOf, predecessors}
+use Rattle.rules.specs.Ordered.{insert, insertAll, remove, best}
+use Rattle.rules.specs.Table.{State, state, order, add}
+use Rattle.rules.specs.Step.{miss, successors, leftOver, access, accessAside}
+use Rattle.rules.specs.Fold.{choice, foldAt, fold, folded}
+use Rattle.rules.specs.Run.{advance, run}
+use Rattle.rules.specs.Join.{paired, walk, fromFront, join}
+use Rattle.rules.specs.Graph.{joinAll, enter, node, worked, finished}
+use Rattle.rules.specs.Refusals.{edgesKept, reasons, verdict, outcome}
+
+-- an input; the final states; what the call says of it: the number 0 for accepted, how many states, the set-aside count
+pub record Case : Type 0 where
+  pub input : Input
+  pub states : List State
+  pub said : OutcomeSays
+
+-- N, K, tracked blocks, run lengths, accesses, edges; with exactly the room that is needed
+abbrev given : ℕ → ℕ → List ℕ → List ℕ → List ℕ → List ℕ → Input
+given N K ts ns bs es =
+    record {
+      ways = N;
+      limit = K;
+      tracked = ts;
+      lengths = ns;
+      accesses = bs;
+      edges = es;
+      resultRoom = K;
+      workingRoom = 5184;
+    }
+
+abbrev comes : Input → List State → ℕ → ℕ → Case
+comes i T n aside = record { input = i; states = T; said = record { number = 0; states = n; aside = aside } }
+
+-- what the definitions make of a case's input
+pub workedOut : Case → Case
+workedOut c = record { input = c .input; states = finished (c .input) .table; said = outcomeSays (outcome (c .input)) }
+
+-- blocks a, b, c, tracked as bits 0, 1, 2 unless said; u is untracked
+abbrev a : ℕ
+a = 10
+
+abbrev b : ℕ
+b = 11
+
+abbrev c : ℕ
+c = 12
+
+abbrev u : ℕ
+u = 7
+
+abbrev abc : List ℕ
+abc = a ∷ b ∷ c ∷ []
+
+pub cases : List Case
+cases =
+    -- 1: the empty run
+    comes (given 2 64 abc (0 ∷ []) [] []) (state 0 0 whole ∷ []) 1 0
+    -- 2: a b c b a
+    ∷ comes (given 2 64 abc (5 ∷ []) (a ∷ b ∷ c ∷ b ∷ a ∷ []) [])
+    (state 1 5 17592186044416 ∷ state 3 4 105553116266496 ∷ state 3 5 52776558133248 ∷ state 5 4 70368744177664 ∷ state 5 5 35184372088832 ∷ [])
+    5 0
+    -- 3: one way
+    ∷ comes (given 1 64 abc (4 ∷ []) (a ∷ a ∷ b ∷ a ∷ []) []) (state 1 3 whole ∷ []) 1 0
+    -- 4: three ways
+    ∷ comes (given 3 64 abc (2 ∷ []) (a ∷ b ∷ []) []) (state 2 2 93824992236886 ∷ state 3 2 187649984473770 ∷ []) 2 2
+    -- 5: one state
+    ∷ comes (given 2 1 abc (5 ∷ []) (a ∷ b ∷ c ∷ b ∷ a ∷ []) []) (state 1 5 whole ∷ []) 1 whole
+    -- 6: two states
+    ∷ comes (given 2 2 abc (3 ∷ []) (a ∷ b ∷ c ∷ []) []) (state 4 3 (2 ^ 47) ∷ state 6 3 (2 ^ 47) ∷ []) 2 70368744177664
+    -- 7: only a tracked
+    ∷ comes (given 2 64 (a ∷ []) (3 ∷ []) (a ∷ u ∷ a ∷ []) []) (state 1 2 (2 ^ 47) ∷ state 1 3 (2 ^ 47) ∷ []) 2 0
+    -- 8: only a tracked, u twice
+    ∷ comes (given 2 64 (a ∷ []) (4 ∷ []) (a ∷ u ∷ u ∷ a ∷ []) []) (state 1 3 (2 ^ 46) ∷ state 1 4 (3 * 2 ^ 46) ∷ []) 2 0
+    -- 9: nodes a; b; empty; a
+    ∷ comes (given 2 64 abc (1 ∷ 1 ∷ 0 ∷ 1 ∷ []) (a ∷ b ∷ a ∷ []) (0 ∷ 1 ∷ 0 ∷ 2 ∷ 1 ∷ 3 ∷ 2 ∷ 3 ∷ []))
+    (state 1 2 (2 ^ 47) ∷ state 1 3 (2 ^ 47) ∷ []) 2 0
+    -- 10: nothing tracked
+    ∷ comes (given 2 64 [] (2 ∷ []) (u ∷ u ∷ []) []) (state 0 2 whole ∷ []) 1 0
+    ∷ []
+
+pub each-comes-out : map workedOut cases ≡ cases
+unfolding workedOut cases more places find bit with without shared heldBelow held size offset runOf predecessors insert insertAll remove best order add miss successors leftOver access accessAside choice foldAt fold folded advance run paired walk fromFront join joinAll enter node worked finished edgesKept reasons verdict outcome flatMap
+each-comes-out = refl

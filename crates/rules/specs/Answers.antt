@@ -1,0 +1,52 @@
+-- What document 01 has for each case of an answer: the number of a refusal and nothing else, or the values with the number 0.
+use Prim.Native.Nat.{ℕ}
+use Rattle.rules.specs.declared.Refusal.{Refusal}
+use Rattle.rules.specs.declared.Refusal.the-variants.{Text, Ways, Limit, Tracked, Accesses, Graph, Room, Row, SpreadRoom}
+use Rattle.rules.specs.declared.Verdict.{Verdict}
+use Rattle.rules.specs.declared.Verdict.the-variants.{Accepted, Refused}
+use Rattle.rules.specs.declared.Outcome.{Outcome}
+use Rattle.rules.specs.declared.Outcome.the-variants.{Finished, Refused as RefusedOutcome}
+use Rattle.rules.specs.declared.Amount.{Amount}
+use Rattle.rules.specs.declared.Amount.the-variants.{Units as AmountOf, Refused as RefusedAmount}
+use Rattle.rules.specs.declared.Count.{Count}
+use Rattle.rules.specs.declared.Count.the-variants.{Misses, Refused as RefusedCount}
+
+-- section 5's number of a refusal
+abbrev pub numberOf : Refusal → ℕ
+numberOf Text = 9
+numberOf Ways = 1
+numberOf Limit = 2
+numberOf Tracked = 3
+numberOf Accesses = 4
+numberOf Graph = 5
+numberOf Room = 6
+numberOf Row = 7
+numberOf SpreadRoom = 8
+
+-- what a verdict says: 0, or the refusal's number
+abbrev pub verdictSays : Verdict → ℕ
+verdictSays Accepted = 0
+verdictSays (Refused r) = numberOf r
+
+-- what an outcome says: 0, the number of states and the set-aside count; or the refusal's number and nothing else
+pub record OutcomeSays : Type 0 where
+  pub number : ℕ
+  pub states : ℕ
+  pub aside : ℕ
+
+abbrev pub outcomeSays : Outcome → OutcomeSays
+outcomeSays (Finished n a) = record { number = 0; states = n; aside = a .0 }
+outcomeSays (RefusedOutcome r) = record { number = numberOf r; states = 0; aside = 0 }
+
+-- what an answer to a question says: 0 and the value; or the refusal's number and nothing else
+pub record AnswerSays : Type 0 where
+  pub number : ℕ
+  pub value : ℕ
+
+abbrev pub amountSays : Amount → AnswerSays
+amountSays (AmountOf u) = record { number = 0; value = u .0 }
+amountSays (RefusedAmount r) = record { number = numberOf r; value = 0 }
+
+abbrev pub countSays : Count → AnswerSays
+countSays (Misses m) = record { number = 0; value = m }
+countSays (RefusedCount r) = record { number = numberOf r; value = 0 }

@@ -1,0 +1,73 @@
+-- Contents: a set of tracked blocks as a mask, a number whose bit i says whether the block at place i of the list is in the set.
+-- Document 01, section 2.
+use mathlib.Core.Bool.{Bool, true, false, cond, _||_, _&&_, not}
+use mathlib.Core.List.{List, [], _∷_, _++_}
+use Prim.Native.Nat.{ℕ, zero, suc, _/_, _%_, _^_}
+use lib.Bits.{bitAnd, bitOr, bitXor}
+use lib.Dec.{eqb}
+use lib.ListN.{length}
+pub use Rattle.rules.specs.declared.Place.{Place}
+pub use Rattle.rules.specs.declared.Place.the-variants.{At as at, Untracked as untracked}
+
+-- at most 16 blocks are tracked
+unfoldable pub places : ℕ
+places = 16
+
+-- ---- the list of tracked blocks
+
+-- whether b is in the list
+abbrev pub among : List ℕ → ℕ → Bool
+among [] b = false
+among (t ∷ ts) b = eqb t b || among ts b
+
+-- no block is listed twice
+abbrev pub once : List ℕ → Bool
+once [] = true
+once (t ∷ ts) = not (among ts t) && once ts
+
+-- one place further on
+abbrev pub further : Place → Place
+further (at i) = at (suc i)
+further untracked = untracked
+
+-- looking up a block finds its place in the list or finds it untracked
+unfoldable pub find : List ℕ → ℕ → Place
+find [] b = untracked
+find (t ∷ ts) b = cond (eqb t b) (at 0) (further (find ts b))
+
+-- ---- masks
+
+-- whether the contents C hold the block at place i
+unfoldable pub bit : ℕ → ℕ → Bool
+bit C i = eqb (C / 2 ^ i % 2) 1
+
+-- whether they hold the block that was looked up; an untracked one is never surely held
+abbrev pub has : ℕ → Place → Bool
+has C (at i) = bit C i
+has C untracked = false
+
+-- C with the block that was looked up; an untracked one adds nothing
+unfoldable pub with : ℕ → Place → ℕ
+with C (at i) = bitOr C (2 ^ i)
+with C untracked = C
+
+-- C without the block at place i, which it holds
+unfoldable pub without : ℕ → ℕ → ℕ
+without C i = bitXor C (2 ^ i)
+
+-- the blocks that C and D share
+unfoldable pub shared : ℕ → ℕ → ℕ
+shared C D = bitAnd C D
+
+-- the places below k whose blocks C holds, rising
+unfoldable pub heldBelow : ℕ → ℕ → List ℕ
+heldBelow zero C = []
+heldBelow (suc k) C = heldBelow k C ++ cond (bit C k) (k ∷ []) []
+
+-- the places of all blocks that C holds
+unfoldable pub held : ℕ → List ℕ
+held C = heldBelow places C
+
+-- how many they are: |C|
+unfoldable pub size : ℕ → ℕ
+size C = length (held C)

@@ -1,0 +1,47 @@
+-- What comes in: document 01, section 2.
+use mathlib.Core.Bool.{cond}
+use mathlib.Core.List.{List, [], _∷_}
+use Prim.Native.Nat.{ℕ}
+use lib.Dec.{eqb}
+use lib.ListN.{length, getD, take, drop}
+use Rattle.basics.specs.Sums.{sumOver}
+
+-- what a graph call is handed; of the two rooms, how many states they have room for
+pub record Input : Type 0 where
+  pub ways : ℕ
+  pub limit : ℕ
+  pub tracked : List ℕ
+  pub lengths : List ℕ
+  pub accesses : List ℕ
+  pub edges : List ℕ
+  pub resultRoom : ℕ
+  pub workingRoom : ℕ
+
+-- how many nodes there are: one for each run length
+abbrev pub nodes : Input → ℕ
+nodes i = length (i .lengths)
+
+-- where node j's run starts: behind the runs of the nodes before it
+unfoldable pub offset : List ℕ → ℕ → ℕ
+offset lengths j = sumOver (λ n. n) (take j lengths)
+
+-- node j's run: a stretch of the one access list
+unfoldable pub runOf : Input → ℕ → List ℕ
+runOf i j = take (getD (i .lengths) j 0) (drop (offset (i .lengths) j) (i .accesses))
+
+-- ---- edges
+
+pub record Edge : Type 0 where
+  pub from : ℕ
+  pub to : ℕ
+
+-- the edges, listed flat: from, to, from, to ..
+abbrev pub edgesOf : List ℕ → List Edge
+edgesOf [] = []
+edgesOf (a ∷ []) = []
+edgesOf (a ∷ b ∷ ns) = record { from = a; to = b } ∷ edgesOf ns
+
+-- the nodes that edges into node j come from, in the order of the list
+unfoldable pub predecessors : List Edge → ℕ → List ℕ
+predecessors [] j = []
+predecessors (e ∷ es) j = cond (eqb (e .to) j) (e .from ∷ predecessors es j) (predecessors es j)

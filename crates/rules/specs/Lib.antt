@@ -1,0 +1,18 @@
+-- Units, answers and their numbers
+pub mod Units
+pub mod Answers
+-- Section 2: what comes in
+pub mod Contents
+pub mod Input
+-- Section 3: states and steps
+pub mod Ordered
+pub mod Table
+pub mod Step
+pub mod Fold
+pub mod Run
+pub mod Join
+pub mod Graph
+-- Section 4: questions put to a finished table
+pub mod Questions
+-- Section 5: when the work says no
+pub mod Refusals

@@ -1,0 +1,74 @@
+-- Questions put to a finished table: document 01, section 4.
+use mathlib.Core.Bool.{Bool, true, false, cond, _&&_}
+use mathlib.Core.List.{List, [], _∷_, _++_}
+use Prim.Native.Nat.{ℕ, zero, suc, max}
+use lib.Dec.{eqb, leb, ltb}
+use lib.ListN.{length}
+use Rattle.basics.specs.Sums.{sumOver}
+use Rattle.rules.specs.declared.Refusal.the-variants.{Row}
+use Rattle.rules.specs.declared.Amount.{Amount}
+use Rattle.rules.specs.declared.Amount.the-variants.{Units as AmountOf, Refused as RefusedAmount}
+use Rattle.rules.specs.declared.Count.{Count}
+use Rattle.rules.specs.declared.Count.the-variants.{Misses, Refused as RefusedCount}
+use Rattle.rules.specs.Units.{whole, units}
+use Rattle.rules.specs.Table.{State, unitsOf, rising, total}
+
+-- ---- what is accepted as a table
+
+-- a state of a table: mask at most 65,535, misses at most 4,096, at least 1 unit
+abbrev pub fitting : State → Bool
+fitting s = leb (s .mask) 65535 && leb (s .misses) 4096 && leb 1 (unitsOf s)
+
+abbrev pub allFitting : List State → Bool
+allFitting [] = true
+allFitting (s ∷ T) = fitting s && allFitting T
+
+-- 1 to 64 states, rising, each fitting, and a true total of exactly WHOLE
+unfoldable pub isTable : List State → Bool
+isTable T = leb 1 (length T) && leb (length T) 64 && rising T && allFitting T && eqb (total T) whole
+
+-- ---- what is asked of it
+
+-- the units at m misses
+unfoldable pub unitsAt : ℕ → List State → ℕ
+unitsAt m T = sumOver (λ s. cond (eqb (s .misses) m) (unitsOf s) 0) T
+
+-- the largest miss count present
+unfoldable pub largest : List State → ℕ
+largest [] = 0
+largest (s ∷ T) = max (s .misses) (largest T)
+
+-- the units at each miss count below n
+abbrev pub countsBelow : ℕ → List State → List ℕ
+countsBelow zero T = []
+countsBelow (suc m) T = countsBelow m T ++ (unitsAt m T ∷ [])
+
+-- the spread: the units at each miss count from 0 to the largest present
+unfoldable pub spread : List State → List ℕ
+spread T = countsBelow (suc (largest T)) T
+
+-- the units above a budget: misses strictly greater
+unfoldable pub above : ℕ → List State → ℕ
+above B T = sumOver (λ s. cond (ltb B (s .misses)) (unitsOf s) 0) T
+
+-- the least number from m on, n steps at most, that passes the test
+abbrev pub leastFrom : (ℕ → Bool) → ℕ → Bool → ℕ → ℕ
+leastFrom test zero passed m = m
+leastFrom test (suc n) true m = m
+leastFrom test (suc n) false m = leastFrom test n (test (suc m)) (suc m)
+
+-- the least number that passes, where n does
+unfoldable pub least : (ℕ → Bool) → ℕ → ℕ
+least test n = leastFrom test n (test 0) 0
+
+-- the smallest budget whose units above are at most u; the largest miss count is one with none above
+unfoldable pub smallestBudget : ℕ → List State → ℕ
+smallestBudget u T = least (λ B. leb (above B T) u) (largest T)
+
+-- ---- the answers: 7 for a row that is no table
+
+unfoldable pub aboveAnswer : List State → ℕ → Amount
+aboveAnswer row B = cond (isTable row) (AmountOf (units (above B row))) (RefusedAmount Row)
+
+unfoldable pub budgetAnswer : List State → ℕ → Count
+budgetAnswer row u = cond (isTable row) (Misses (smallestBudget u row)) (RefusedCount Row)

@@ -1,0 +1,96 @@
+-- When the work says no: document 01, section 5. Reasons are checked in this order; the first that applies is given.
+use mathlib.Core.Bool.{Bool, true, false, cond, _||_, _&&_, not}
+use mathlib.Core.List.{List, [], _∷_, map}
+use Prim.Native.Nat.{ℕ, zero, suc}
+use lib.Dec.{eqb, ltb}
+use lib.ListN.{length}
+use Rattle.basics.specs.Sums.{sumOver}
+use Rattle.rules.specs.declared.Refusal.{Refusal}
+use Rattle.rules.specs.declared.Refusal.the-variants.{Ways, Limit, Tracked, Accesses, Graph, Room}
+use Rattle.rules.specs.declared.Verdict.{Verdict}
+use Rattle.rules.specs.declared.Verdict.the-variants.{Accepted, Refused}
+use Rattle.rules.specs.declared.Outcome.{Outcome}
+use Rattle.rules.specs.declared.Outcome.the-variants.{Finished, Refused as RefusedOutcome}
+use Rattle.rules.specs.Units.{units}
+use Rattle.rules.specs.Contents.{among, once}
+use Rattle.rules.specs.Ordered.{Order, byNumber, thenBy, rises}
+use Rattle.rules.specs.Input.{Input, nodes, Edge, edgesOf}
+use Rattle.rules.specs.Graph.{finished}
+
+-- n is not one of low .. high
+abbrev pub outside : ℕ → ℕ → ℕ → Bool
+outside low high n = ltb n low || ltb high n
+
+-- ---- the edge rules of section 2
+
+-- the numbers come in pairs
+abbrev pub inPairs : List ℕ → Bool
+inPairs [] = true
+inPairs (a ∷ []) = false
+inPairs (a ∷ b ∷ ns) = inPairs ns
+
+-- from lower than to, and to below the node count
+abbrev pub forward : ℕ → List Edge → Bool
+forward n [] = true
+forward n (e ∷ es) = ltb (e .from) (e .to) && ltb (e .to) n && forward n es
+
+-- by to, then by from
+abbrev pub edgeOrder : Edge → Edge → Order
+edgeOrder e f = thenBy (byNumber (e .to) (f .to)) (byNumber (e .from) (f .from))
+
+-- the test passes for each number below n
+abbrev pub eachBelow : ℕ → (ℕ → Bool) → Bool
+eachBelow zero test = true
+eachBelow (suc n) test = test n && eachBelow n test
+
+-- every node but 0 has an edge in
+abbrev pub entered : ℕ → List Edge → Bool
+entered n es = eachBelow n (λ j. eqb j 0 || among (map (λ e. e .to) es) j)
+
+-- every node but the last has an edge out
+abbrev pub left : ℕ → List Edge → Bool
+left n es = eachBelow n (λ j. eqb (suc j) n || among (map (λ e. e .from) es) j)
+
+-- the flat list of a graph of n nodes keeps every edge rule
+unfoldable pub edgesKept : ℕ → List ℕ → Bool
+edgesKept n ns = let es = edgesOf ns in inPairs ns && forward n es && rises edgeOrder es && entered n es && left n es
+
+-- ---- the table of section 5
+
+-- whether a reason applies, and the refusal that it gives
+pub record Reason : Type 0 where
+  pub applies : Bool
+  pub gives : Refusal
+
+abbrev pub when : Bool → Refusal → Reason
+when b r = record { applies = b; gives = r }
+
+-- 1 to 6, in order
+unfoldable pub reasons : Input → List Reason
+reasons i =
+    when (outside 1 16 (i .ways)) Ways
+    ∷ when (outside 1 64 (i .limit)) Limit
+    ∷ when (ltb 16 (length (i .tracked)) || not (once (i .tracked))) Tracked
+    ∷ when (ltb 4096 (length (i .accesses))) Accesses
+    ∷ when
+    (outside 1 64 (nodes i) || not (eqb (sumOver (λ n. n) (i .lengths)) (length (i .accesses))) || not (edgesKept (nodes i) (i .edges)))
+    Graph
+    ∷ when (ltb (i .resultRoom) (i .limit) || ltb (i .workingRoom) 5184) Room
+    ∷ []
+
+-- the first that applies
+abbrev pub first : List Reason → Verdict
+first [] = Accepted
+first (r ∷ rs) = cond (r .applies) (Refused (r .gives)) (first rs)
+
+unfoldable pub verdict : Input → Verdict
+verdict i = first (reasons i)
+
+-- ---- what the graph call answers
+
+abbrev pub answered : Verdict → Input → Outcome
+answered Accepted i = let w = finished i in Finished (length (w .table)) (units (w .aside))
+answered (Refused r) i = RefusedOutcome r
+
+unfoldable pub outcome : Input → Outcome
+outcome i = answered (verdict i) i

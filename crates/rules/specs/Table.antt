@@ -1,0 +1,59 @@
+-- States and tables: document 01, section 3.
+use mathlib.Core.Bool.{Bool, cond}
+use mathlib.Core.List.{List, [], _∷_}
+use Prim.Native.Nat.{ℕ, _+_}
+use lib.Dec.{eqb}
+use lib.ListN.{getD}
+use Rattle.basics.specs.Sums.{sumOver}
+pub use Rattle.rules.specs.declared.State.{State}
+use Rattle.rules.specs.Units.{whole, units}
+use Rattle.rules.specs.Ordered.{Order, byNumber, thenBy, rises, insert, insertAll}
+
+-- a contents mask, a miss count and a number of units
+abbrev pub state : ℕ → ℕ → ℕ → State
+state C m u = record { mask = C; misses = m; units = units u }
+
+abbrev pub unitsOf : State → ℕ
+unitsOf s = s .units .0
+
+-- the start is one state: nothing held, 0 misses, WHOLE units
+abbrev pub begin : List State
+begin = state 0 0 whole ∷ []
+
+-- by mask as a number, then by misses
+unfoldable pub order : State → State → Order
+order s t = thenBy (byNumber (s .mask) (t .mask)) (byNumber (s .misses) (t .misses))
+
+-- a table lists its states strictly rising
+abbrev pub rising : List State → Bool
+rising T = rises order T
+
+-- states with equal mask and misses are added together
+abbrev pub plus : State → State → State
+plus t s = state (t .mask) (t .misses) (unitsOf t + unitsOf s)
+
+-- a state comes into a table
+abbrev pub put : State → List State → List State
+put s T = insert order plus s T
+
+-- states of 0 units vanish
+abbrev pub listed : List State → List State
+listed [] = []
+listed (s ∷ S) = cond (eqb (unitsOf s) 0) (listed S) (s ∷ listed S)
+
+-- the states S, added to the table T
+unfoldable pub add : List State → List State → List State
+add S T = insertAll order plus (listed S) T
+
+-- the units of all states
+unfoldable pub total : List State → ℕ
+total T = sumOver unitsOf T
+
+-- the state at a place; past the end there is none, with 0 units
+abbrev pub stateAt : List State → ℕ → State
+stateAt T i = getD T i (state 0 0 0)
+
+-- a table, and the units set aside on the way to it
+pub record Work : Type 0 where
+  pub table : List State
+  pub aside : ℕ

@@ -1,0 +1,131 @@
+// The plain types that the definitions (specs/), the code above this crate and its callers share: document 01, sections 1 to 5.
+ghost use mathlib.Core.Path.{_≡_};
+ghost use Rattle.rules.specs.Units.{splitOf, addOf};
+ghost use Rattle.rules.specs.Answers.{numberOf};
+
+// A probability: whole units of 2^-48.
+pub struct Units(pub u64);
+
+// A number of units divided by the ways: each way's part, rounded down, and what is left over.
+pub struct Share {
+    pub part: Units,
+    pub rest: Units,
+}
+
+impl Units {
+    // Probability 1.
+    pub const WHOLE: Units = Units(281474976710656);
+
+    // Division by no way gives no part: all is left over.
+    pub fn split(self, ways: u64) -> Share
+        ensures { λ r. ⌜ r ≡ splitOf self ways ⌝ }
+    {
+        if ways == 0 {
+            Share {
+                part: Units(0),
+                rest: Units(self.0),
+            }
+        } else {
+            Share {
+                part: Units(self.0 / ways),
+                rest: Units(self.0 % ways),
+            }
+        }
+    }
+
+    // The sum, which stops at WHOLE.
+    pub fn add(self, other: Units) -> Units
+        ensures { λ r. ⌜ r ≡ addOf self other ⌝ }
+    {
+        let whole = Units::WHOLE;
+        if whole.0 <= self.0 {
+            return whole;
+        }
+        if whole.0 - self.0 <= other.0 {
+            return whole;
+        }
+        Units(self.0 + other.0)
+    }
+}
+
+// A state of a table: the contents mask (bit i: the tracked block at place i is surely held), a miss count, and units.
+pub struct State {
+    pub mask: u64,
+    pub misses: u64,
+    pub units: Units,
+}
+
+// Where an accessed block stands in the list of tracked blocks.
+pub enum Place {
+    At(usize),
+    Untracked,
+}
+
+// How one stands to another in a table's order.
+pub enum Order {
+    Before,
+    Same,
+    After,
+}
+
+// The places of the two states that a fold makes one: that of fewest units in the table, and its partner's among the others.
+pub struct Pair {
+    pub fewest: usize,
+    pub partner: usize,
+}
+
+// Why the work says no: a name for each line of section 5's table.
+pub enum Refusal {
+    Text,
+    Ways,
+    Limit,
+    Tracked,
+    Accesses,
+    Graph,
+    Room,
+    Row,
+    SpreadRoom,
+}
+
+impl Refusal {
+    // Its number in section 5's table.
+    pub fn number(self) -> u64
+        ensures { λ r. ⌜ r ≡ numberOf self ⌝ }
+    {
+        match self {
+            Refusal::Text => 9,
+            Refusal::Ways => 1,
+            Refusal::Limit => 2,
+            Refusal::Tracked => 3,
+            Refusal::Accesses => 4,
+            Refusal::Graph => 5,
+            Refusal::Room => 6,
+            Refusal::Row => 7,
+            Refusal::SpreadRoom => 8,
+        }
+    }
+}
+
+// What is decided about an input before any work.
+pub enum Verdict {
+    Accepted,
+    Refused(Refusal),
+}
+
+// What the graph call answers: how many states the finished table has and the set-aside count, or a refusal.
+pub enum Outcome {
+    Finished(usize, Units),
+    Refused(Refusal),
+}
+
+// What a question about units answers.
+pub enum Amount {
+    Units(Units),
+    Refused(Refusal),
+}
+
+// What a question about a miss count answers: the smallest budget, or the largest count of a spread.
+pub enum Count {
+    Misses(u64),
+    Refused(Refusal),
+}
