@@ -105,6 +105,10 @@ sub-without-both C D j s h =
 
 -- ---- how many blocks
 
+pub sixteen-places : places ≡ 16
+unfolding places
+sixteen-places = refl
+
 -- a sum over the places of the blocks held
 sum-held-below : (f : ℕ → ℕ) (k C : ℕ) → sumOver f (heldBelow k C) ≡ sumOn k (bit C) f
 unfolding heldBelow

@@ -15,7 +15,8 @@ use Rattle.rules.specs.declared.Pair.{Pair}
 use Rattle.rules.specs.Contents.{size}
 use Rattle.rules.specs.Ordered.{remove, best}
 use Rattle.rules.specs.Table.{State, state, unitsOf, total, stateAt, Work}
-use Rattle.rules.specs.Fold.{fewer, closer, choice, meet, foldAt, fold, foldsOf, folded}
+use Rattle.rules.specs.Units.{more}
+use Rattle.rules.specs.Fold.{fewer, closer, choice, meet, changed, foldAt, fold, foldsOf, folded}
 use Rattle.rules.proofs.Lists.{Every, every-remove, every-at, every-weaker, length-remove, best-lt}
 use Rattle.rules.proofs.Ordered.{in-order-remove}
 use Rattle.rules.proofs.Contents.{size-zero, size-sub, sub-shared-left, shared-lt}
@@ -46,6 +47,14 @@ module _ (p : Pair) (T : List State) where
   pub fold-after : (f : ℕ → ℕ → ℕ) (a : ℕ) → worth f (foldAt p (record { table = T; aside = a }) .table) ≡ worthOf f meetOf + worth f othersOf
   unfolding foldAt
   fold-after f a = worth-add f (meetOf ∷ []) othersOf ∙ omega arith
+
+  -- what it sets aside
+  abbrev pub asideOf : ℕ
+  asideOf = changed firstOf meetOf + changed secondOf meetOf
+
+  pub fold-aside : (a : ℕ) → foldAt p (record { table = T; aside = a }) .aside ≡ more a asideOf
+  unfolding foldAt
+  fold-aside a = refl
 
 pub fold-total : (p : Pair) (w : Work) → total (foldAt p w .table) ≡ total (w .table)
 fold-total p w =

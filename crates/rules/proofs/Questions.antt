@@ -2,12 +2,12 @@
 -- the work finishes is accepted as a table.
 use mathlib.Core.Path.{_≡_, refl, ap, _∙_}
 use mathlib.Core.Logic.{_⊎_, inl, inr}
-use mathlib.Core.Bool.{Bool, true, false, _&&_}
+use mathlib.Core.Bool.{Bool, true, false, cond, _&&_}
 use mathlib.Core.List.{List, [], _∷_}
 use Prim.Native.Nat.{ℕ, zero, suc, _+_, _-_, _^_, _≤_, _<_, zero-le}
 use native.Mathlib.Nat.{le-trans, le-max-left, le-max-right, eq-or-lt-of-le, zero-add, add-zero}
 use native.Mathlib.Omega.{arith}
-use lib.Dec.{eqb, leb}
+use lib.Dec.{eqb, leb, ltb}
 use lib.ListN.{length}
 use lib.Pow.{pow-mono}
 use borrow.Author.Tests.{leb-true, leb-false, le-ltb, le-leb, eq-eqb}
@@ -23,9 +23,9 @@ use Rattle.rules.specs.Refusals.{outcome}
 use Rattle.rules.proofs.Lists.{Every}
 use Rattle.rules.proofs.Table.{rising-is}
 use Rattle.rules.proofs.Step.{Shaped}
-use Rattle.rules.proofs.Refusals.{accepted}
+use Rattle.rules.proofs.Refusals.{Checked, accepted}
 use Rattle.rules.proofs.Run.{Table}
-use Rattle.rules.proofs.Graph.{nodeTable, finished-table, node-table}
+use Rattle.rules.proofs.Graph.{finished-table, node-table}
 
 -- ---- the units above a budget
 
@@ -35,6 +35,15 @@ above-largest B [] l = refl
 above-largest B (s ∷ T) l =
     rw (le-ltb B (s .misses) (le-trans (le-max-left (s .misses) (largest T)) l))
     (omega (arith, above-largest B T (le-trans (le-max-right (s .misses) (largest T)) l)))
+
+pub above-most : (B : ℕ) (T : List State) → above B T ≤ total T
+unfolding above total
+above-most B [] = zero-le
+above-most B (s ∷ T) = go (ltb B (s .misses)) (above-most B T)
+  where
+    go : (b : Bool) {x y : ℕ} → x ≤ y → cond b (unitsOf s) 0 + x ≤ unitsOf s + y
+    go true l = omega arith
+    go false l = omega arith
 
 -- ---- the least number that passes a test
 
@@ -107,9 +116,15 @@ table-is N k K M T a b c t =
     some [] e = absurd (omega arith)
     some (s ∷ T) e = omega arith
 
+-- the finished table of an accepted input
+finished-good : (i : Input) → Checked i → Table (i .ways) (length (i .tracked)) (i .limit) (length (i .accesses)) (finished i .table)
+finished-good i ok =
+    rw (finished-table i (ok .some-nodes)) (node-table i ok (nodes i - 1) (omega (arith, ok .some-nodes)))
+
+pub finished-whole : (i : Input) → outcomeSays (outcome i) .number ≡ 0 → total (finished i .table) ≡ whole
+finished-whole i h = finished-good i (accepted i h) .full
+
 pub finished-is-table : (i : Input) → outcomeSays (outcome i) .number ≡ 0 → isTable (finished i .table) ≡ true
 finished-is-table i h =
     let ok = accepted i h in
-    rw (finished-table i (ok .some-nodes))
-    (table-is _ _ _ _ (nodeTable i (nodes i - 1)) (ok .few-tracked) (ok .few-states) (ok .few-accesses)
-    (node-table i ok (nodes i - 1) (omega (arith, ok .some-nodes))))
+    table-is _ _ _ _ (finished i .table) (ok .few-tracked) (ok .few-states) (ok .few-accesses) (finished-good i ok)

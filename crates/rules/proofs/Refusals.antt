@@ -18,6 +18,7 @@ use Rattle.rules.specs.Answers.{numberOf, verdictSays, outcomeSays}
 use Rattle.rules.specs.Contents.{among, once}
 use Rattle.rules.specs.Ordered.{rises}
 use Rattle.rules.specs.Input.{Input, nodes, Edge, edgesOf, predecessors}
+use Rattle.rules.specs.Graph.{finished}
 use Rattle.rules.specs.Refusals.{outside, forward, inPairs, edgeOrder, entered, left, edgesKept, Reason, reasons, first, verdict, answered, outcome}
 use Rattle.rules.proofs.Lists.{Every}
 
@@ -113,6 +114,15 @@ accepted i h =
     says : (v : Verdict) → outcomeSays (answered v i) .number ≡ 0 → verdictSays v ≡ 0
     says Accepted h = refl
     says (Refused r) h = h
+
+-- and then it carries the finished work's set-aside count
+pub says-aside : (i : Input) → outcomeSays (outcome i) .number ≡ 0 → outcomeSays (outcome i) .aside ≡ finished i .aside
+unfolding outcome
+says-aside i h = go (verdict i) h
+  where
+    go : (v : Verdict) → outcomeSays (answered v i) .number ≡ 0 → outcomeSays (answered v i) .aside ≡ finished i .aside
+    go Accepted h = refl
+    go (Refused r) h = absurd (numbered r h)
 
 -- ---- edges
 

@@ -1,0 +1,57 @@
+-- What an access does to the worth of a table, from the one equation for it: nothing is lost to a weight that rises, since the units
+-- that are left over go where they are worth most; no more is added than those units; and where there are none, nothing changes.
+use mathlib.Core.Path.{_≡_, refl, ap}
+use mathlib.Core.Bool.{Bool, true, false, cond}
+use mathlib.Core.List.{List, [], _∷_}
+use Prim.Native.Nat.{ℕ, suc, _+_, _*_, _%_, _≤_}
+use native.Mathlib.Nat.{mul-le-mul-left}
+use native.Mathlib.Omega.{arith}
+use Rattle.basics.specs.Sums.{sumOver}
+use Rattle.rules.specs.declared.Place.{Place}
+use Rattle.rules.specs.declared.State.{State}
+use Rattle.rules.specs.Contents.{size, has, with}
+use Rattle.rules.specs.Table.{unitsOf}
+use Rattle.rules.specs.Step.{leftOver, access, accessAside}
+use Rattle.rules.proofs.Table.{worth}
+use Rattle.rules.proofs.Step.{overWays, ahead, aheadOf, alone, worth-access}
+use Rattle.rules.proofs.Run.{Fits}
+use Rattle.promises.proofs.Value.{Rises, alone-most}
+
+module _ (N : ℕ) (x : Place) (f : ℕ → ℕ → ℕ) where
+  pub access-low : Rises N f → (T : List State) → Fits N T → worth (ahead N x f) T ≤ N * worth f (access N x T)
+  unfolding leftOver
+  access-low rises T h = omega (arith, worth-access N x f T, all T h)
+    where
+      one : (s : State) → size (s .mask) ≤ N → leftOver N x s * aheadOf N x f s ≤ N * (leftOver N x s * alone N x f s)
+      one s l = go (has (s .mask) x)
+        where
+          S : ℕ
+          S = overWays N (s .mask) (λ D. f (with D x) (suc (s .misses)))
+
+          go : (a : Bool) → cond a 0 (unitsOf s % N) * cond a (N * f (s .mask) (s .misses)) S ≤ N * (cond a 0 (unitsOf s % N) * alone N x f s)
+          go true = omega arith
+          go false = omega (arith, mul-le-mul-left (unitsOf s % N) (alone-most N (s .mask) (s .misses) x f rises l))
+
+      all : (T : List State) → Fits N T
+          → sumOver (λ s. leftOver N x s * aheadOf N x f s) T ≤ N * sumOver (λ s. leftOver N x s * alone N x f s) T
+      all [] h = omega arith
+      all (s ∷ T) h = omega (arith, all T (h .1), one s (h .0))
+
+  pub access-high : (B : ℕ) → ((m : ℕ) → f (with 0 x) m ≤ B) → (T : List State)
+      → N * worth f (access N x T) ≤ worth (ahead N x f) T + N * (accessAside N x T * B)
+  unfolding accessAside
+  access-high B most T = omega (arith, worth-access N x f T, mul-le-mul-left N (all T))
+    where
+      all : (T : List State) → sumOver (λ s. leftOver N x s * alone N x f s) T ≤ sumOver (leftOver N x) T * B
+      all [] = omega arith
+      all (s ∷ T) = omega (arith, all T, mul-le-mul-left (leftOver N x s) (most (suc (s .misses))))
+
+  pub access-even : (T : List State) → accessAside N x T ≡ 0 → N * worth f (access N x T) ≡ worth (ahead N x f) T
+  unfolding accessAside
+  access-even T e = omega (arith, worth-access N x f T, none (aheadOf N x f) T e, ap (N *_) (none (alone N x f) T e))
+    where
+      none : (g : State → ℕ) (T : List State) → sumOver (leftOver N x) T ≡ 0 → sumOver (λ s. leftOver N x s * g s) T ≡ 0
+      none g [] e = refl
+      none g (s ∷ T) e =
+          let z : leftOver N x s ≡ 0 = omega arith in
+          rw z (omega (arith, none g T (omega arith)))

@@ -1,0 +1,42 @@
+-- A join by any pairing that uses each state's units exactly is worth no less than either table, to a weight that rises: each pair
+-- has the shared blocks and the larger misses. Document 01's walk from the front is such a pairing.
+use mathlib.Core.Path.{_≡_}
+use mathlib.Core.List.{List, [], _∷_}
+use Prim.Native.Nat.{ℕ, _+_, _*_, _≤_}
+use native.Mathlib.Nat.{le-max-left, le-max-right, mul-le-mul-left, add-le-add, le-refl}
+use Rattle.basics.specs.Sums.{sumOver}
+use Rattle.rules.specs.declared.State.{State}
+use Rattle.rules.specs.Table.{total, stateAt}
+use Rattle.rules.specs.Join.{Match, matched, paired, fromFront, join}
+use Rattle.rules.proofs.Lists.{Every}
+use Rattle.rules.proofs.Contents.{sub-shared-left, sub-shared-right}
+use Rattle.rules.proofs.Table.{worthOf, worth}
+use Rattle.rules.proofs.Step.{Shaped}
+use Rattle.rules.proofs.Fold.{loose-at}
+use Rattle.rules.proofs.Join.{Uses, matched-worth, paired-worth, front-uses}
+use Rattle.promises.proofs.Value.{Rises}
+
+-- by any pairing, where each pair weighs no less than the state on one side of it
+paired-above : (f : ℕ → ℕ → ℕ) (P : List Match) (S T : List State) (side : Match → ℕ) (U : List State) → Uses side P U
+    → ((p : Match) → f (stateAt U (side p) .mask) (stateAt U (side p) .misses) ≤ f (matched S T p .mask) (matched S T p .misses))
+    → worth f U ≤ worth f (paired P S T)
+paired-above f P S T side U u above = rw (matched-worth side P U u f, paired-worth f P S T) (each P)
+  where
+    each : (P : List Match) → sumOver (λ p. p .units * f (stateAt U (side p) .mask) (stateAt U (side p) .misses)) P
+        ≤ sumOver (λ p. worthOf f (matched S T p)) P
+    each [] = le-refl 0
+    each (p ∷ P) = add-le-add (mul-le-mul-left (p .units) (above p)) (each P)
+
+module _ (N k M : ℕ) (f : ℕ → ℕ → ℕ) (rises : Rises N f) (S T : List State) (a : Every (Shaped N k M) S) (b : Every (Shaped N k M) T) where
+  pub pairing-above : (P : List Match) → Uses (λ p. p .left) P S → Uses (λ p. p .right) P T
+      → (worth f S ≤ worth f (paired P S T)) × (worth f T ≤ worth f (paired P S T))
+  pairing-above P l r = (
+    paired-above f P S T (λ p. p .left) S l
+        (λ p. rises _ _ _ _ (sub-shared-left _ _) (le-max-left _ _) (loose-at N k M (p .left) S a .small)),
+    paired-above f P S T (λ p. p .right) T r
+        (λ p. rises _ _ _ _ (sub-shared-right _ _) (le-max-right _ _) (loose-at N k M (p .right) T b .small)),
+  )
+
+  pub join-above : total S ≡ total T → (worth f S ≤ worth f (join S T)) × (worth f T ≤ worth f (join S T))
+  unfolding join
+  join-above e = let (l, r) = front-uses S T e in pairing-above (fromFront S T) l r

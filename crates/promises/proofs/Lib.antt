@@ -1,0 +1,17 @@
+-- What the ways of a cache hold, as a contents mask
+pub mod Seen
+-- The worth of contents to the accesses ahead, and that it is above the machine, or equal to it
+pub mod Value
+pub mod Safe
+pub mod Exact
+-- What an access, a fold and a join do to the worth of a table
+pub mod Accesses
+pub mod Folds
+pub mod Joins
+-- Runs, from their first access to their last, and graphs along a path
+pub mod Runs
+pub mod Graphs
+-- The promises
+pub mod Straight
+pub mod Weights
+pub mod Promises

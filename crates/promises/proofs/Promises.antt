@@ -1,0 +1,63 @@
+-- The promises, together and with all that they assume: an input that is accepted, by the very definition that refuses it (its
+-- outcome says 0). N is its ways, L the accesses of the path, `whole` is 2^48.
+use mathlib.Core.Path.{_≡_, sym, _∙_}
+use mathlib.Core.Bool.{true}
+use mathlib.Core.Logic.{⊎-elim}
+use mathlib.Core.List.{List}
+use Prim.Native.Nat.{ℕ, _+_, _*_, _^_, _≤_}
+use native.Mathlib.Nat.{mul-le-mul-right}
+use native.Mathlib.Omega.{arith}
+use lib.ListN.{length}
+use Rattle.machine.specs.Draws.{count}
+use Rattle.rules.specs.Answers.{outcomeSays}
+use Rattle.rules.specs.Input.{Input, nodes}
+use Rattle.rules.specs.Questions.{isTable, above}
+use Rattle.rules.specs.Graph.{finished}
+use Rattle.rules.specs.Refusals.{outcome}
+use Rattle.rules.specs.Table.{total}
+use Rattle.rules.specs.Units.{whole}
+use Rattle.rules.proofs.Refusals.{accepted, says-aside}
+use Rattle.rules.proofs.Questions.{finished-whole, finished-is-table}
+use Rattle.promises.specs.Paths.{isPath, accessesOf, allTracked}
+use Rattle.promises.specs.Ends.{over, endsWith, unitsWith}
+use Rattle.promises.proofs.Graphs.{path-covers}
+use Rattle.promises.proofs.Straight.{machine-start, machine-even, straight-high, straight-even, below-whole}
+use Rattle.promises.proofs.Weights.{if, if-most, overIs, over-rises, worth-above, count-over, atIs, worth-with, count-with}
+
+-- Safe, the first half of point 3. For every accepted graph, every path from first node to last and every budget B:
+-- (choice sequences with more misses than B) × 2^48 ≤ (units above B) × N^L.
+pub safe : (i : Input) → outcomeSays (outcome i) .number ≡ 0 → (path : List ℕ) → isPath i path ≡ true → (B : ℕ)
+    → count (over B) (i .ways) (accessesOf i path) * whole ≤ above B (finished i .table) * i .ways ^ length (accessesOf i path)
+safe i ok path p B =
+    let c = accepted i ok in
+    let ahead = path-covers i c path p (if (overIs B)) (over-rises (i .ways) B) in
+    let machine = machine-start i c (if (overIs B)) (over-rises (i .ways) B) (accessesOf i path) in
+    rw (count-over (i .tracked) B (i .ways) (accessesOf i path), ← worth-above B (finished i .table)) (omega (arith, ahead, machine))
+
+-- Tight, the second half of point 3. On a straight run with every block tracked the excess is at most set aside × N^L.
+pub tight : (i : Input) → outcomeSays (outcome i) .number ≡ 0 → nodes i ≡ 1 → allTracked (i .tracked) (i .accesses) ≡ true → (B : ℕ)
+    → above B (finished i .table) * i .ways ^ length (i .accesses)
+    ≤ count (over B) (i .ways) (i .accesses) * whole + outcomeSays (outcome i) .aside * i .ways ^ length (i .accesses)
+tight i ok one all B =
+    let c = accepted i ok in
+    rw (says-aside i ok, count-over (i .tracked) B (i .ways) (i .accesses))
+    (⊎-elim
+    (λ e. rw e (omega (arith, mul-le-mul-right (i .ways ^ length (i .accesses)) (below-whole i ok B))))
+    (λ h. omega (arith, rw (worth-above B (finished i .table)) at h, machine-even i c all (if (overIs B))))
+    (straight-high i c one (if (overIs B)) (if-most (overIs B))))
+
+-- Exact, point 2. On a straight run with every block tracked and nothing set aside, for each contents C and miss count m:
+-- units × N^L = 2^48 × the number of choice sequences ending there.
+pub exact : (i : Input) → outcomeSays (outcome i) .number ≡ 0 → nodes i ≡ 1 → allTracked (i .tracked) (i .accesses) ≡ true
+    → outcomeSays (outcome i) .aside ≡ 0 → (C m : ℕ)
+    → unitsWith C m (finished i .table) * i .ways ^ length (i .accesses)
+    ≡ whole * count (endsWith (i .tracked) C m) (i .ways) (i .accesses)
+exact i ok one all none C m =
+    let c = accepted i ok in
+    let table = straight-even i c one (if (atIs C m)) (sym (says-aside i ok) ∙ none) in
+    rw (count-with (i .tracked) C m (i .ways) (i .accesses), ← worth-with C m (finished i .table))
+    (omega (arith, table, machine-even i c all (if (atIs C m))))
+
+-- Whole. Units always total 2^48, and the finished table is a table by section 4, so that the questions accept it.
+pub whole-table : (i : Input) → outcomeSays (outcome i) .number ≡ 0 → (total (finished i .table) ≡ whole) × (isTable (finished i .table) ≡ true)
+whole-table i ok = (finished-whole i ok, finished-is-table i ok)

@@ -1,0 +1,147 @@
+-- A run, accounted for from its first access to its last: what the table it starts from is worth along its accesses, against
+-- N ^ (its length) times what the table it ends in is worth. Each access is one factor N.
+use mathlib.Core.Path.{_≡_, refl, sym, ap, _∙_}
+use mathlib.Core.Logic.{_⊎_, inl, inr}
+use mathlib.Core.List.{List, [], _∷_, map}
+use Prim.Native.Nat.{ℕ, suc, _+_, _*_, _^_, _≤_, _<_}
+use native.Mathlib.Nat.{le-trans, mul-le-mul-left, pow-zero, pow-succ'}
+use native.Mathlib.Omega.{arith}
+use lib.ListN.{length, length-map}
+use Rattle.rules.specs.declared.Place.{Place}
+use Rattle.rules.specs.declared.State.{State}
+use Rattle.rules.specs.Units.{whole, more}
+use Rattle.rules.specs.Contents.{size, with, find}
+use Rattle.rules.specs.Table.{Work}
+use Rattle.rules.specs.Step.{access, accessAside}
+use Rattle.rules.specs.Run.{advance, run}
+use Rattle.rules.proofs.Splitting.{more-stops, more-cases}
+use Rattle.rules.proofs.Lists.{Every}
+use Rattle.rules.proofs.Contents.{size-with, size-zero}
+use Rattle.rules.proofs.Table.{worth}
+use Rattle.rules.proofs.Step.{ahead, Shaped, Listed, access-shaped}
+use Rattle.rules.proofs.Run.{Fits, fits-shaped, Table, table-fits, table-advance, find-listed}
+use Rattle.promises.proofs.Value.{value, Rises, value-rises, value-most}
+use Rattle.promises.proofs.Accesses.{access-low, access-high, access-even}
+use Rattle.promises.proofs.Folds.{aside-none, Kept, kept-folded}
+
+-- ---- one access with its folds
+
+module _ (N k K M : ℕ) (x : Place) (some : 0 < N) (place : Listed k x) (w : Work) (shape : Every (Shaped N k M) (w .table)) where
+  -- after the access, before the folds
+  abbrev stepped : Work
+  stepped = record { table = access N x (w .table); aside = more (w .aside) (accessAside N x (w .table)) }
+
+  kept : Kept N k (suc M) stepped (advance N K x w)
+  unfolding advance
+  kept = kept-folded N k (suc M) K stepped
+
+  after : Every (Shaped N k (suc M)) (access N x (w .table))
+  after = access-shaped N k M x some place (w .table) shape
+
+  pub advance-low : (f : ℕ → ℕ → ℕ) → Rises N f → worth (ahead N x f) (w .table) ≤ N * worth f (advance N K x w .table)
+  advance-low f rises =
+      le-trans (access-low N x f rises (w .table) (fits-shaped N k M (w .table) shape)) (mul-le-mul-left N (kept .low f rises after))
+
+  pub advance-stopped : w .aside ≡ whole → advance N K x w .aside ≡ whole
+  advance-stopped e = kept .stopped (more-stops (w .aside) (accessAside N x (w .table)) (omega arith))
+
+  -- unless the count has stopped
+  pub advance-high : (f : ℕ → ℕ → ℕ) (B : ℕ) → ((C m : ℕ) → size C ≤ N → f C m ≤ B)
+      → (advance N K x w .aside ≡ whole)
+      ⊎ (N * worth f (advance N K x w .table) + N * (w .aside * B) ≤ worth (ahead N x f) (w .table) + N * (advance N K x w .aside * B))
+  advance-high f B most = go (more-cases (w .aside) (accessAside N x (w .table))) (kept .high f B most after)
+    where
+      v : Work
+      v = advance N K x w
+
+      go : (stepped .aside ≡ whole) ⊎ (stepped .aside ≡ w .aside + accessAside N x (w .table))
+          → (v .aside ≡ whole) ⊎ (worth f (v .table) + stepped .aside * B ≤ worth f (stepped .table) + v .aside * B)
+          → (v .aside ≡ whole) ⊎ (N * worth f (v .table) + N * (w .aside * B) ≤ worth (ahead N x f) (w .table) + N * (v .aside * B))
+      go (inl e) h = inl (kept .stopped e)
+      go (inr e) (inl h) = inl h
+      go (inr e) (inr h) =
+          inr (omega (
+            arith,
+            mul-le-mul-left N h,
+            ap (λ (a : ℕ). N * (a * B)) e,
+            access-high N x f B (λ m. most (with 0 x) m (omega (arith, size-with 0 x, size-zero))) (w .table),
+          ))
+
+  pub advance-even : advance N K x w .aside ≡ 0
+      → (w .aside ≡ 0) × ((f : ℕ → ℕ → ℕ) → N * worth f (advance N K x w .table) ≡ worth (ahead N x f) (w .table))
+  advance-even e =
+      let (p, same) = kept .even e in
+      let (q, none) = aside-none (w .aside) (accessAside N x (w .table)) p in
+      (q, λ f. ap (N *_) (same f) ∙ access-even N x f (w .table) none)
+
+-- ---- a run
+
+module _ (N K : ℕ) (ts : List ℕ) (some : 0 < N) (room : 0 < K) where
+  abbrev k : ℕ
+  k = length ts
+
+  abbrev places : List ℕ → List Place
+  places bs = map (find ts) bs
+
+  next : (M : ℕ) (b : ℕ) (w : Work) → Table N k K M (w .table) → Table N k K (suc M) (advance N K (find ts b) w .table)
+  next M b w t = table-advance N k K some room M (find ts b) w (find-listed ts b) t
+
+  pub run-low : (F : ℕ → ℕ → ℕ) → Rises N F → (M : ℕ) (bs : List ℕ) (w : Work) → Table N k K M (w .table)
+      → worth (value F N (places bs)) (w .table) ≤ N ^ length bs * worth F (run N K ts bs w .table)
+  unfolding run value
+  run-low F rises M [] w t = rw (pow-zero N) (omega arith)
+  run-low F rises M (b ∷ bs) w t =
+      rw (pow-succ' N (length bs))
+      (omega (
+        arith,
+        advance-low N k K M (find ts b) some (find-listed ts b) w (t .shaped) (value F N (places bs)) (value-rises N F rises (places bs)),
+        mul-le-mul-left N (run-low F rises (suc M) bs (advance N K (find ts b) w) (next M b w t)),
+      ))
+
+  run-stopped : (M : ℕ) (bs : List ℕ) (w : Work) → Table N k K M (w .table) → w .aside ≡ whole → run N K ts bs w .aside ≡ whole
+  unfolding run
+  run-stopped M [] w t e = e
+  run-stopped M (b ∷ bs) w t e =
+      run-stopped (suc M) bs (advance N K (find ts b) w) (next M b w t)
+      (advance-stopped N k K M (find ts b) some (find-listed ts b) w (t .shaped) e)
+
+  pub run-high : (F : ℕ → ℕ → ℕ) → ((C m : ℕ) → F C m ≤ 1) → (M : ℕ) (bs : List ℕ) (w : Work) → Table N k K M (w .table)
+      → (run N K ts bs w .aside ≡ whole)
+      ⊎ (N ^ length bs * worth F (run N K ts bs w .table) + w .aside * N ^ length bs
+      ≤ worth (value F N (places bs)) (w .table) + run N K ts bs w .aside * N ^ length bs)
+  unfolding run value
+  run-high F most M [] w t = inr (rw (pow-zero N) (omega arith))
+  run-high F most M (b ∷ bs) w t =
+      go (advance-high N k K M (find ts b) some (find-listed ts b) w (t .shaped) (value F N (places bs)) (N ^ length bs) top)
+      (run-high F most (suc M) bs v (next M b w t))
+    where
+      v : Work
+      v = advance N K (find ts b) w
+
+      top : (C m : ℕ) → size C ≤ N → value F N (places bs) C m ≤ N ^ length bs
+      top C m l = rw (length-map bs (find ts)) at (value-most F most N (places bs) C m l)
+
+      z : Work
+      z = run N K ts bs v
+
+      go : (v .aside ≡ whole)
+          ⊎ (N * worth (value F N (places bs)) (v .table) + N * (w .aside * N ^ length bs)
+          ≤ worth (value F N (places (b ∷ bs))) (w .table) + N * (v .aside * N ^ length bs))
+          → (z .aside ≡ whole)
+          ⊎ (N ^ length bs * worth F (z .table) + v .aside * N ^ length bs ≤ worth (value F N (places bs)) (v .table) + z .aside * N ^ length bs)
+          → (z .aside ≡ whole)
+          ⊎ (N ^ suc (length bs) * worth F (z .table) + w .aside * N ^ suc (length bs)
+          ≤ worth (value F N (places (b ∷ bs))) (w .table) + z .aside * N ^ suc (length bs))
+      go (inl e) h = inl (run-stopped (suc M) bs v (next M b w t) e)
+      go (inr g) (inl h) = inl h
+      go (inr g) (inr h) = inr (rw (pow-succ' N (length bs)) (omega (arith, g, mul-le-mul-left N h)))
+
+  pub run-even : (F : ℕ → ℕ → ℕ) (M : ℕ) (bs : List ℕ) (w : Work) → Table N k K M (w .table) → run N K ts bs w .aside ≡ 0
+      → (w .aside ≡ 0) × (N ^ length bs * worth F (run N K ts bs w .table) ≡ worth (value F N (places bs)) (w .table))
+  unfolding run value
+  run-even F M [] w t e = (e, rw (pow-zero N) (omega arith))
+  run-even F M (b ∷ bs) w t e =
+      let v = advance N K (find ts b) w in
+      let (p, rest) = run-even F (suc M) bs v (next M b w t) e in
+      let (q, here) = advance-even N k K M (find ts b) some (find-listed ts b) w (t .shaped) p in
+      (q, rw (pow-succ' N (length bs)) (omega (arith, here (value F N (places bs)), ap (N *_) rest)))

@@ -1,0 +1,26 @@
+-- What is counted where a path ends: in the machine, choice sequences; in the finished table, units.
+use mathlib.Core.Bool.{Bool, cond, _&&_}
+use mathlib.Core.List.{List, [], _∷_}
+use Prim.Native.Nat.{ℕ, _+_, _*_}
+use lib.Dec.{eqb, ltb}
+use Rattle.basics.specs.Sums.{sumOver}
+use Rattle.machine.specs.Cache.{Way, holds, Cache}
+use Rattle.rules.specs.declared.State.{State}
+use Rattle.rules.specs.Table.{unitsOf}
+
+-- the cache had more misses than the budget
+abbrev pub over : ℕ → Cache → Bool
+over B c = ltb B (c .misses)
+
+-- the contents mask of the tracked blocks that the ways hold: bit i for the block at place i of the list
+unfoldable pub contentsOf : List ℕ → List Way → ℕ
+contentsOf [] ws = 0
+contentsOf (t ∷ ts) ws = contentsOf ts ws * 2 + cond (holds ws t) 1 0
+
+-- the cache ends with contents C and m misses
+abbrev pub endsWith : List ℕ → ℕ → ℕ → Cache → Bool
+endsWith ts C m c = eqb (contentsOf ts (c .ways)) C && eqb (c .misses) m
+
+-- the units of a table at contents C and m misses
+unfoldable pub unitsWith : ℕ → ℕ → List State → ℕ
+unitsWith C m T = sumOver (λ s. cond (eqb (s .mask) C && eqb (s .misses) m) (unitsOf s) 0) T
