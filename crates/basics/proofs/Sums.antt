@@ -1,5 +1,5 @@
 -- Sums over a list, over 0 .. n - 1, and over those of 0 .. n - 1 that pass a test.
-use mathlib.Core.Path.{_≡_, refl, sym, ap, ap₂, _∙_}
+use mathlib.Core.Path.{_≡_, refl, sym, ap, ap₂}
 use mathlib.Core.Logic.{_≢_}
 use mathlib.Core.Bool.{Bool, true, false, cond}
 use mathlib.Core.List.{List, [], _∷_, _++_, map}
@@ -46,10 +46,6 @@ sum-eq (suc n) f g h = ap₂ _+_ (sum-eq n f g (λ i l. h i (le-step l))) (h n (
 pub sum-add : (n : ℕ) (f g : ℕ → ℕ) → sumTo n (λ i. f i + g i) ≡ sumTo n f + sumTo n g
 sum-add zero f g = refl
 sum-add (suc n) f g = omega (arith, sum-add n f g)
-
-pub sum-scale : (n : ℕ) (f : ℕ → ℕ) (c : ℕ) → sumTo n (λ i. f i * c) ≡ sumTo n f * c
-sum-scale zero f c = omega arith
-sum-scale (suc n) f c = omega (arith, sum-scale n f c)
 
 pub sum-const : (n c : ℕ) → sumTo n (λ i. c) ≡ n * c
 sum-const zero c = omega arith

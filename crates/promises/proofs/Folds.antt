@@ -3,7 +3,7 @@
 use mathlib.Core.Path.{_≡_, refl, sym, _∙_}
 use mathlib.Core.Logic.{_⊎_, inl, inr, ⊎-elim}
 use mathlib.Core.Bool.{Bool, true, false, cond, _&&_}
-use mathlib.Core.List.{List, [], _∷_}
+use mathlib.Core.List.{List}
 use Prim.Native.Nat.{ℕ, _+_, _*_, _≤_}
 use native.Mathlib.Nat.{le-trans, le-max-left, le-max-right, mul-le-mul-left}
 use native.Mathlib.Omega.{arith}
@@ -21,7 +21,7 @@ use Rattle.rules.proofs.Lists.{Every, every-remove}
 use Rattle.rules.proofs.Contents.{Sub, size-sub, sub-shared-left, sub-shared-right}
 use Rattle.rules.proofs.Table.{worthOf, worth}
 use Rattle.rules.proofs.Step.{Shaped}
-use Rattle.rules.proofs.Fold.{firstOf, secondOf, othersOf, meetOf, fold-before, fold-after, asideOf, fold-aside, loose-at, shaped-fold, folded-keeps}
+use Rattle.rules.proofs.Fold.{firstOf, secondOf, meetOf, fold-before, fold-after, asideOf, fold-aside, loose-at, shaped-fold, folded-keeps}
 use Rattle.promises.proofs.Value.{Rises}
 
 -- ---- the set-aside count

@@ -2,7 +2,7 @@
 -- has the shared blocks and the larger misses. Document 01's walk from the front is such a pairing.
 use mathlib.Core.Path.{_≡_}
 use mathlib.Core.List.{List, [], _∷_}
-use Prim.Native.Nat.{ℕ, _+_, _*_, _≤_}
+use Prim.Native.Nat.{ℕ, _*_, _≤_}
 use native.Mathlib.Nat.{le-max-left, le-max-right, mul-le-mul-left, add-le-add, le-refl}
 use Rattle.basics.specs.Sums.{sumOver}
 use Rattle.rules.specs.declared.State.{State}

@@ -1,6 +1,6 @@
 -- A run, accounted for from its first access to its last: what the table it starts from is worth along its accesses, against
 -- N ^ (its length) times what the table it ends in is worth. Each access is one factor N.
-use mathlib.Core.Path.{_≡_, refl, sym, ap, _∙_}
+use mathlib.Core.Path.{_≡_, ap, _∙_}
 use mathlib.Core.Logic.{_⊎_, inl, inr}
 use mathlib.Core.List.{List, [], _∷_, map}
 use Prim.Native.Nat.{ℕ, suc, _+_, _*_, _^_, _≤_, _<_}
@@ -8,7 +8,6 @@ use native.Mathlib.Nat.{le-trans, mul-le-mul-left, pow-zero, pow-succ'}
 use native.Mathlib.Omega.{arith}
 use lib.ListN.{length, length-map}
 use Rattle.rules.specs.declared.Place.{Place}
-use Rattle.rules.specs.declared.State.{State}
 use Rattle.rules.specs.Units.{whole, more}
 use Rattle.rules.specs.Contents.{size, with, find}
 use Rattle.rules.specs.Table.{Work}
@@ -19,7 +18,7 @@ use Rattle.rules.proofs.Lists.{Every}
 use Rattle.rules.proofs.Contents.{size-with, size-zero}
 use Rattle.rules.proofs.Table.{worth}
 use Rattle.rules.proofs.Step.{ahead, Shaped, Listed, access-shaped}
-use Rattle.rules.proofs.Run.{Fits, fits-shaped, Table, table-fits, table-advance, find-listed}
+use Rattle.rules.proofs.Run.{fits-shaped, Table, table-advance, find-listed}
 use Rattle.promises.proofs.Value.{value, Rises, value-rises, value-most}
 use Rattle.promises.proofs.Accesses.{access-low, access-high, access-even}
 use Rattle.promises.proofs.Folds.{aside-none, Kept, kept-folded}

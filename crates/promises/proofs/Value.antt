@@ -8,25 +8,12 @@ use Prim.Native.Nat.{ℕ, zero, suc, _+_, _-_, _*_, _^_, _≤_, _<_, suc-le-suc}
 use native.Mathlib.Nat.{le-refl, le-trans, le-step, mul-le-mul-left, pow-zero, pow-succ'}
 use native.Mathlib.Omega.{arith}
 use lib.ListN.{length}
-use Rattle.basics.specs.Sums.{sumOver}
 use Rattle.basics.proofs.Sums.{sumOn, sum-le, sum-add, on-none, sum-each}
 use Rattle.rules.specs.declared.Place.{Place}
 use Rattle.rules.specs.declared.Place.the-variants.{At as at, Untracked as untracked}
 use Rattle.rules.specs.Contents.{places, bit, has, with, without, held, size}
 use Rattle.rules.proofs.Bits.{bit-zero}
-use Rattle.rules.proofs.Contents.{
-  Sub,
-  sum-held,
-  size-zero,
-  size-sub,
-  size-with,
-  size-moved,
-  sub-with,
-  sub-with-has,
-  sub-without,
-  sub-without-both,
-  sub-into-without,
-}
+use Rattle.rules.proofs.Contents.{Sub, sum-held, size-zero, size-sub, size-with, size-moved, sub-with, sub-with-has, sub-without, sub-without-both, sub-into-without}
 use Rattle.rules.proofs.Step.{overWays, ahead, others, overWays-each}
 
 -- F summed over the N ^ (length p) draws of the places p, from contents C with m misses

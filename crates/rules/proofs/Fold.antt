@@ -4,7 +4,7 @@ use mathlib.Core.Path.{_≡_, refl, ap, _∙_}
 use mathlib.Core.Logic.{_≢_}
 use mathlib.Core.Bool.{Bool, true, false}
 use mathlib.Core.List.{List, [], _∷_}
-use Prim.Native.Nat.{ℕ, zero, suc, _+_, _*_, _≤_, _<_, zero-le}
+use Prim.Native.Nat.{ℕ, zero, suc, _+_, _≤_, _<_, zero-le}
 use native.Mathlib.Nat.{le-refl, le-trans, max-le, pos-of-ne-zero}
 use native.Mathlib.Omega.{arith}
 use lib.Dec.{leb}
@@ -12,7 +12,6 @@ use lib.ListN.{length}
 use lib.Pow.{pow-pos}
 use borrow.Author.Tests.{leb-true, leb-false}
 use Rattle.rules.specs.declared.Pair.{Pair}
-use Rattle.rules.specs.Contents.{size}
 use Rattle.rules.specs.Ordered.{remove, best}
 use Rattle.rules.specs.Table.{State, state, unitsOf, total, stateAt, Work}
 use Rattle.rules.specs.Units.{more}

@@ -1,6 +1,6 @@
 -- Every node's table is a table: for an accepted input, by induction over the nodes. The finished table is one, of is many misses as
 -- there are accesses at most, so that the questions accept it.
-use mathlib.Core.Path.{_≡_, refl, sym, ap, _∙_, subst}
+use mathlib.Core.Path.{_≡_, refl, ap, _∙_, subst}
 use mathlib.Core.Bool.{true}
 use mathlib.Core.List.{List, [], _∷_, _++_}
 use mathlib.Core.Logic.{_⊎_, inl, inr}
@@ -17,7 +17,6 @@ use Rattle.basics.proofs.Sums.{sum-append}
 use Rattle.rules.specs.Contents.{among}
 use Rattle.rules.specs.Input.{Input, nodes, offset, runOf, edgesOf, predecessors}
 use Rattle.rules.specs.Table.{State, begin, Work}
-use Rattle.rules.specs.Run.{run}
 use Rattle.rules.specs.Graph.{Worked, tableAt, joinAll, enter, node, worked, finished}
 use Rattle.rules.proofs.Refusals.{Checked, predecessor-lower}
 use Rattle.rules.proofs.Run.{Table, table-wider, table-begin, table-join, table-run}

@@ -4,7 +4,7 @@ use mathlib.Core.Path.{_≡_, refl, sym, ap, ap₂, _∙_}
 use mathlib.Core.Logic.{_≢_}
 use mathlib.Core.Bool.{Bool, true, false, cond}
 use mathlib.Core.List.{List, [], _∷_, map}
-use Prim.Native.Nat.{ℕ, zero, suc, _+_, _-_, _*_, _≤_, _<_, min}
+use Prim.Native.Nat.{ℕ, zero, suc, _+_, _*_, _≤_, _<_, min}
 use native.Mathlib.Nat.{le-refl, min-le-left, min-le-right, zero-add}
 use native.Mathlib.Omega.{arith, min-cases}
 use lib.Dec.{eqb}
@@ -13,7 +13,6 @@ use borrow.Author.Tests.{eqb-true, eq-eqb, ne-eqb}
 use Rattle.basics.specs.Sums.{sumOver}
 use Rattle.basics.proofs.Sums.{sum-map, sumTo, sum-eq, sum-add, sum-const, sum-list, sumOn, on-none, on-point}
 use Rattle.rules.specs.Table.{State, state, unitsOf, total, stateAt}
-use Rattle.rules.specs.Fold.{meet}
 use Rattle.rules.specs.Join.{Match, matched, paired, less, leftAfter, placeAfter, walk, fromFront, join}
 use Rattle.rules.proofs.Lists.{Every, every-weaker}
 use Rattle.rules.proofs.Table.{Rising, rising-add, every-add, worthOf, worth, worth-add, one, worth-total}

@@ -1,6 +1,6 @@
 -- Insertion into a list in an order, over any element: what stays true of every element, what is summed, how long the list gets,
 -- and that it keeps rising. Then the order of states, by mask and misses.
-use mathlib.Core.Path.{_≡_, refl, sym, ap, _∙_}
+use mathlib.Core.Path.{_≡_, refl, sym, _∙_}
 use mathlib.Core.Logic.{_⊎_, inl, inr}
 use mathlib.Core.Bool.{Bool, true, false, cond, true≢false}
 use mathlib.Core.List.{List, [], _∷_}
@@ -10,7 +10,8 @@ use lib.Dec.{eqb, ltb}
 use lib.ListN.{length}
 use borrow.Author.Tests.{ltb-true, ltb-false, eqb-true, eqb-false, lt-ltb, le-ltb, eq-eqb}
 use Rattle.basics.specs.Sums.{sumOver}
-use Rattle.rules.specs.Ordered.{Order, before, same, after, byNumber, thenBy, isBefore, rises, inserted, insert, insertAll, remove}
+use Rattle.basics.proofs.Bools.{and-left, and-right}
+use Rattle.rules.specs.Ordered.{Order, before, same, after, byNumber, thenBy, byTwo, isBefore, rises, inserted, insert, insertAll, remove}
 use Rattle.rules.specs.Table.{State, order, plus}
 use Rattle.rules.proofs.Lists.{Every, every-weaker, every-remove}
 
@@ -81,6 +82,20 @@ module _ {A : Type 0} (order : A → A → Order) where
   in-order-rises (s ∷ []) h = refl
   in-order-rises (s ∷ t ∷ T) h = rw (h .0 .0) (in-order-rises (t ∷ T) (h .1))
 
+  -- it is enough that each stands before the next
+  pub rises-in-order : ((s t u : A) → order s t ≡ before → order t u ≡ before → order s u ≡ before) → (T : List A) → rises order T ≡ true → InOrder T
+  rises-in-order onward [] h = tt
+  rises-in-order onward (s ∷ []) h = (tt, tt)
+  rises-in-order onward (s ∷ t ∷ T) h =
+      let rest = rises-in-order onward (t ∷ T) (and-right (isBefore (order s t)) _ h) in
+      let first = is-before (order s t) (and-left (isBefore (order s t)) _ h) in
+      ((first, every-weaker (λ u. order t u ≡ before) (λ u. order s u ≡ before) (λ u. onward s t u first) T (rest .0)), rest)
+    where
+      is-before : (o : Order) → isBefore o ≡ true → o ≡ before
+      is-before before e = refl
+      is-before same e = absurd (true≢false (sym e))
+      is-before after e = absurd (true≢false (sym e))
+
   pub in-order-remove : (i : ℕ) (T : List A) → InOrder T → InOrder (remove i T)
   unfolding remove
   in-order-remove i [] h = tt
@@ -123,57 +138,65 @@ number-cases a b P f g h = go (ltb a b) (eqb a b) refl refl
     go false true p q = g (eqb-true a b q)
     go false false p q = let n : a ≡ b → ⊥ = eqb-false a b q in h (omega (arith, ltb-false a b p, n))
 
-number-before : (a b : ℕ) → a < b → byNumber a b ≡ before
+pub number-before : (a b : ℕ) → a < b → byNumber a b ≡ before
 number-before a b l = rw (lt-ltb a b l)
 
 number-same : (a b : ℕ) → a ≡ b → byNumber a b ≡ same
 number-same a b e = rw (le-ltb a b (omega arith), eq-eqb a b e)
 
+-- ---- by two numbers
+
+module _ {A : Type 0} (p q : A → ℕ) where
+  -- before by the first, or by the second where the first are equal
+  abbrev pub Less : A → A → Type 0
+  Less s t = (p s < p t) ⊎ ((p s ≡ p t) × (q s < q t))
+
+  -- what the order says
+  abbrev Said : A → A → Order → Type 0
+  Said s t before = Less s t
+  Said s t same = (p s ≡ p t) × (q s ≡ q t)
+  Said s t after = Less t s
+
+  says : (s t : A) → Said s t (byTwo p q s t)
+  says s t =
+      number-cases (p s) (p t) (λ o. Said s t (thenBy o (byNumber (q s) (q t)))) inl
+      (λ e. number-cases (q s) (q t) (Said s t) (λ l. inr (e, l)) (λ d. (e, d)) (λ l. inr (sym e, l)))
+      inl
+
+  pub two-before : (s t : A) → byTwo p q s t ≡ before → Less s t
+  two-before s t e = rw e at (says s t)
+
+  pub two-same : (s t : A) → byTwo p q s t ≡ same → (p s ≡ p t) × (q s ≡ q t)
+  two-same s t e = rw e at (says s t)
+
+  less-before : (s t : A) → Less s t → byTwo p q s t ≡ before
+  less-before s t (inl l) = rw (number-before (p s) (p t) l)
+  less-before s t (inr (e, l)) = rw (number-same (p s) (p t) e, number-before (q s) (q t) l)
+
+  less-trans : (s t u : A) → Less s t → Less t u → Less s u
+  less-trans s t u (inl a) (inl b) = inl (omega arith)
+  less-trans s t u (inl a) (inr b) = inl (omega arith)
+  less-trans s t u (inr a) (inl b) = inl (omega arith)
+  less-trans s t u (inr a) (inr b) = inr (omega arith)
+
+  pub two-onward : (s t u : A) → byTwo p q s t ≡ before → byTwo p q t u ≡ before → byTwo p q s u ≡ before
+  two-onward s t u a b = less-before s u (less-trans s t u (two-before s t a) (two-before t u b))
+
+  pub two-turned : (s t : A) → byTwo p q s t ≡ after → byTwo p q t s ≡ before
+  two-turned s t e = less-before t s (rw e at (says s t))
+
 -- ---- the order of states
 
--- before by mask, or by misses where the masks are equal
-abbrev Less : State → State → Type 0
-Less s t = (s .mask < t .mask) ⊎ ((s .mask ≡ t .mask) × (s .misses < t .misses))
-
--- what the order says of two states
-abbrev Said : State → State → Order → Type 0
-Said s t before = Less s t
-Said s t same = (s .mask ≡ t .mask) × (s .misses ≡ t .misses)
-Said s t after = Less t s
-
-order-says : (s t : State) → Said s t (order s t)
-unfolding order
-order-says s t =
-    number-cases (s .mask) (t .mask) (λ o. Said s t (thenBy o (byNumber (s .misses) (t .misses)))) inl
-    (λ e. number-cases (s .misses) (t .misses) (Said s t) (λ l. inr (e, l)) (λ d. (e, d)) (λ l. inr (sym e, l)))
-    inl
-
-order-before : (s t : State) → order s t ≡ before → Less s t
-order-before s t e = rw e at (order-says s t)
-
 pub order-same : (s t : State) → order s t ≡ same → (s .mask ≡ t .mask) × (s .misses ≡ t .misses)
-order-same s t e = rw e at (order-says s t)
-
-order-after : (s t : State) → order s t ≡ after → Less t s
-order-after s t e = rw e at (order-says s t)
-
-less-before : (s t : State) → Less s t → order s t ≡ before
 unfolding order
-less-before s t (inl l) = rw (number-before (s .mask) (t .mask) l)
-less-before s t (inr (e, l)) = rw (number-same (s .mask) (t .mask) e, number-before (s .misses) (t .misses) l)
-
-less-trans : (s t u : State) → Less s t → Less t u → Less s u
-less-trans s t u (inl a) (inl b) = inl (omega arith)
-less-trans s t u (inl a) (inr b) = inl (omega arith)
-less-trans s t u (inr a) (inl b) = inl (omega arith)
-less-trans s t u (inr a) (inr b) = inr (omega arith)
+order-same s t e = two-same (λ s. s .mask) (λ s. s .misses) s t e
 
 pub states-sort : Sorts order plus
 unfolding order
 states-sort =
     record {
-      onward = λ s t u a b. less-before s u (less-trans s t u (order-before s t a) (order-before t u b));
-      turned = λ s t e. less-before t s (order-after s t e);
+      onward = two-onward (λ s. s .mask) (λ s. s .misses);
+      turned = two-turned (λ s. s .mask) (λ s. s .misses);
       placed-left = λ t s u. refl;
       placed-right = λ u t s. refl;
     }

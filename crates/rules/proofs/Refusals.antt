@@ -1,6 +1,6 @@
 -- What an accepted input is: none of section 5's reasons applies to it. Each fact here is one of those tests, turned round.
 use mathlib.Core.Path.{_≡_, refl, sym, _∙_}
-use mathlib.Core.Logic.{_≢_, _⊎_, inl, inr}
+use mathlib.Core.Logic.{_≢_, _⊎_, inl, inr, ⊎-elim}
 use mathlib.Core.Bool.{Bool, true, false, cond, _||_, _&&_, not, true≢false}
 use mathlib.Core.List.{List, [], _∷_}
 use Prim.Native.Nat.{ℕ, _≤_, _<_}
@@ -14,13 +14,14 @@ use Rattle.rules.specs.declared.Refusal.{Refusal}
 use Rattle.rules.specs.declared.Refusal.the-variants.{Text, Ways, Limit, Tracked, Accesses, Graph, Room, Row, SpreadRoom}
 use Rattle.rules.specs.declared.Verdict.{Verdict}
 use Rattle.rules.specs.declared.Verdict.the-variants.{Accepted, Refused}
-use Rattle.rules.specs.Answers.{numberOf, verdictSays, outcomeSays}
+use Rattle.rules.specs.Answers.{numberOf, Reason, first, verdictSays, outcomeSays}
 use Rattle.rules.specs.Contents.{among, once}
-use Rattle.rules.specs.Ordered.{rises}
+use Rattle.rules.specs.Ordered.{before, byNumber, rises}
 use Rattle.rules.specs.Input.{Input, nodes, Edge, edgesOf, predecessors}
 use Rattle.rules.specs.Graph.{finished}
-use Rattle.rules.specs.Refusals.{outside, forward, inPairs, edgeOrder, entered, left, edgesKept, Reason, reasons, first, verdict, answered, outcome}
+use Rattle.rules.specs.Refusals.{outside, forward, inPairs, edgeOrder, entered, left, edgesKept, reasons, verdict, answered, outcome}
 use Rattle.rules.proofs.Lists.{Every}
+use Rattle.rules.proofs.Ordered.{InOrder, in-order-rises, rises-in-order, number-before, two-before, two-onward}
 
 -- ---- no reason applies
 
@@ -153,9 +154,46 @@ forward-pred n (x ∷ es) h i j e =
         pick (inl s) = let from : x .from ≡ i = eqb-true (x .from) i s in omega (arith, up, in-range, to)
         pick (inr s) = rest s
 
+-- they lead forward, and rise
+edges-are : (n : ℕ) (ns : List ℕ) → edgesKept n ns ≡ true → (forward n (edgesOf ns) ≡ true) × (rises edgeOrder (edgesOf ns) ≡ true)
+unfolding edgesKept
+edges-are n ns h =
+    let both = and-left (inPairs ns && forward n es && rises edgeOrder es) (entered n es) (and-left _ (left n es) h) in
+    (and-right (inPairs ns) (forward n es) (and-left (inPairs ns && forward n es) (rises edgeOrder es) both), and-right (inPairs ns && forward n es) (rises edgeOrder es) both)
+  where
+    es : List Edge
+    es = edgesOf ns
+
 -- an edge comes from a lower node, and leads to a node
 pub predecessor-lower : (i : Input) → Checked i → (a j : ℕ) → among (predecessors (edgesOf (i .edges)) j) a ≡ true → (a < j) × (j < nodes i)
-unfolding edgesKept
 predecessor-lower i ok a j e =
-    forward-pred (nodes i) (edgesOf (i .edges))
-    (and-right (inPairs (i .edges)) _ (and-left _ _ (and-left _ _ (and-left _ _ (ok .edges-kept))))) a j e
+    forward-pred (nodes i) (edgesOf (i .edges)) (edges-are (nodes i) (i .edges) (ok .edges-kept) .0) a j e
+
+-- predecessors are listed rising, the lowest first
+pub predecessors-rise : (i : Input) → Checked i → (j : ℕ) → rises byNumber (predecessors (edgesOf (i .edges)) j) ≡ true
+unfolding predecessors
+predecessors-rise i ok j =
+    in-order-rises byNumber (predecessors (edgesOf (i .edges)) j)
+    (go (edgesOf (i .edges))
+    (rises-in-order edgeOrder (two-onward (λ e. e .to) (λ e. e .from)) (edgesOf (i .edges)) (edges-are (nodes i) (i .edges) (ok .edges-kept) .1)))
+  where
+    behind : (e f : Edge) → e .to ≡ f .to → edgeOrder e f ≡ before → byNumber (e .from) (f .from) ≡ before
+    behind e f t b = number-before (e .from) (f .from) (⊎-elim (λ l. absurd (omega arith)) (λ l. l .1) (two-before (λ e. e .to) (λ e. e .from) e f b))
+
+    later : (e : Edge) → e .to ≡ j → (es : List Edge) → Every (λ f. edgeOrder e f ≡ before) es → Every (λ a. byNumber (e .from) a ≡ before) (predecessors es j)
+    later e t [] h = tt
+    later e t (f ∷ es) h = pick (eqb (f .to) j) refl (later e t es (h .1))
+      where
+        pick : (b : Bool) → eqb (f .to) j ≡ b → Every (λ a. byNumber (e .from) a ≡ before) (predecessors es j)
+            → Every (λ a. byNumber (e .from) a ≡ before) (cond b (f .from ∷ predecessors es j) (predecessors es j))
+        pick true q r = (behind e f (t ∙ sym (eqb-true (f .to) j q)) (h .0), r)
+        pick false q r = r
+
+    go : (es : List Edge) → InOrder edgeOrder es → InOrder byNumber (predecessors es j)
+    go [] h = tt
+    go (e ∷ es) h = pick (eqb (e .to) j) refl (go es (h .1))
+      where
+        pick : (b : Bool) → eqb (e .to) j ≡ b → InOrder byNumber (predecessors es j)
+            → InOrder byNumber (cond b (e .from ∷ predecessors es j) (predecessors es j))
+        pick true q r = (later e (eqb-true (e .to) j q) es (h .0), r)
+        pick false q r = r

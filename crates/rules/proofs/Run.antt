@@ -1,17 +1,16 @@
 -- What every table of the work is: rising, at most K states, each in shape, units totalling WHOLE. The start is one, and an access
 -- with its folds, a run and a join with its folds make one of one.
 use mathlib.Core.Path.{_≡_, refl, sym, _∙_}
-use mathlib.Core.Bool.{true}
-use mathlib.Core.List.{List, [], _∷_}
-use Prim.Native.Nat.{ℕ, suc, _+_, _≤_, _<_}
-use native.Mathlib.Nat.{le-trans, zero-add, suc-add, add-suc}
+use mathlib.Core.List.{List, [], _∷_, flatMap}
+use Prim.Native.Nat.{ℕ, suc, _+_, _*_, _≤_, _<_, suc-le-suc}
+use native.Mathlib.Nat.{le-trans, mul-le-mul, zero-add, suc-add, add-suc}
 use native.Mathlib.Omega.{arith}
 use lib.ListN.{length}
 use lib.Pow.{pow-pos}
 use Rattle.rules.specs.Units.{whole}
 use Rattle.rules.specs.Contents.{Place, size, find}
-use Rattle.rules.specs.Table.{State, begin, total, Work}
-use Rattle.rules.specs.Step.{access}
+use Rattle.rules.specs.Table.{State, begin, listed, total, Work}
+use Rattle.rules.specs.Step.{successors, access}
 use Rattle.rules.specs.Fold.{folded}
 use Rattle.rules.specs.Run.{advance, run}
 use Rattle.rules.specs.Join.{join}
@@ -19,7 +18,7 @@ use Rattle.rules.proofs.Lists.{Every, every-weaker}
 use Rattle.rules.proofs.Contents.{size-zero}
 use Rattle.rules.proofs.Lookup.{find-at}
 use Rattle.rules.proofs.Table.{Rising, rising-add}
-use Rattle.rules.proofs.Step.{Loose, Shaped, Listed, access-shaped, access-total}
+use Rattle.rules.proofs.Step.{Shaped, Listed, access-shaped, access-total, length-access}
 use Rattle.rules.proofs.Fold.{rising-folded, shaped-folded, folded-total, length-folded}
 use Rattle.rules.proofs.Join.{rising-join, shaped-join, join-total}
 
@@ -86,6 +85,11 @@ module _ (N k K : ℕ) (some : 0 < N) (room : 0 < K) where
       → Table N k K M (folded K (record { table = join S T; aside = a }) .table)
   table-join M S T a s t =
       table-folded M _ (rising-join S T) (shaped-join N k M S T (s .shaped) (t .shaped)) (join-total S T (s .full ∙ sym (t .full)) ∙ s .full)
+
+-- an access lists at most 17 × K states before adding
+pub access-room : (N k K M : ℕ) (x : Place) (T : List State) → N ≤ 16 → Table N k K M T → length (listed (flatMap (successors N x) T)) ≤ 17 * K
+access-room N k K M x T few t =
+    omega (arith, length-access N x T (table-fits N k K M T t), mul-le-mul (t .short) (suc-le-suc few))
 
 -- a block that is looked up stands at one of the places, or at none
 pub find-listed : (ts : List ℕ) (b : ℕ) → Listed (length ts) (find ts b)

@@ -1,11 +1,9 @@
 -- A count that stops at WHOLE, and the division of units among ways.
 use mathlib.Core.Path.{_≡_, refl}
 use mathlib.Core.Logic.{_⊎_, inl, inr}
-use Prim.Native.Nat.{ℕ, _+_, _/_, _%_, _≤_, _<_}
-use native.Mathlib.Nat.{min-eq-left, min-eq-right, min-le-left, le-of-lt, lt-of-not-le, div-zero, mod-zero}
+use Prim.Native.Nat.{ℕ, _+_, _/_, _%_, _≤_}
+use native.Mathlib.Nat.{min-eq-left, min-eq-right, le-of-lt, lt-of-not-le, div-zero, mod-zero}
 use native.Mathlib.Decide.{decLe}
-use native.Mathlib.Omega.{arith}
-use Rattle.rules.specs.declared.Share.{Share}
 use Rattle.rules.specs.declared.Units.{Units}
 use Rattle.rules.specs.Units.{whole, units, more, splitOf, addOf}
 
@@ -26,10 +24,6 @@ more-cases a n = go (decLe (a + n) whole)
     go : Dec (a + n ≤ whole) → (more a n ≡ whole) ⊎ (more a n ≡ a + n)
     go (yes h) = inr (more-adds a n h)
     go (no h) = inl (more-stops a n (le-of-lt (lt-of-not-le h)))
-
-pub more-least : (a n : ℕ) → more a n ≤ whole
-unfolding more
-more-least a n = min-le-left whole (a + n)
 
 -- ---- the types' methods
 

@@ -5,7 +5,7 @@ use mathlib.Core.Path.{_≡_, refl, ap, ap₂, _∙_}
 use mathlib.Core.Logic.{_≢_}
 use mathlib.Core.Bool.{Bool, true, false, cond}
 use mathlib.Core.List.{List, [], _∷_, _++_, map, flatMap}
-use Prim.Native.Nat.{ℕ, zero, suc, _+_, _-_, _*_, _/_, _%_, _^_, _≤_, _<_}
+use Prim.Native.Nat.{ℕ, suc, _+_, _-_, _*_, _/_, _%_, _^_, _≤_, _<_}
 use native.Mathlib.Nat.{le-trans, le-step, suc-le-suc-iff, pos-of-ne-zero, div-add-mod, eq-of-mul-eq-mul-left}
 use native.Mathlib.Decide.{decLt}
 use native.Mathlib.Omega.{arith}
@@ -16,8 +16,8 @@ use borrow.Author.Tests.{eq-eqb}
 use Rattle.basics.specs.Sums.{sumOver}
 use Rattle.basics.proofs.Sums.{sum-append, sum-map, sum-times, sum-each}
 use Rattle.rules.specs.Contents.{places, Place, at, bit, has, with, without, held, size}
-use Rattle.rules.specs.Table.{State, unitsOf, plus, listed, add, total}
-use Rattle.rules.specs.Step.{missed, miss, successors, leftOver, access, accessAside}
+use Rattle.rules.specs.Table.{State, unitsOf, plus, listed, total}
+use Rattle.rules.specs.Step.{missed, miss, successors, leftOver, access}
 use Rattle.rules.proofs.Lists.{Every, every-append, every-map, every-flatMap}
 use Rattle.rules.proofs.Contents.{size-zero, size-with, size-moved, every-held, with-lt, without-lt}
 use Rattle.rules.proofs.Table.{length-listed-append, length-listed, every-add, worthOf, worth, worth-add, one, worth-total}

@@ -1,18 +1,18 @@
 -- States added to a table: it keeps rising, it grows by no more states than are listed, each state keeps what adding does not
 -- break, and it is worth what both were. The worth of a table is its units, each times a weight that goes with the contents and the
 -- misses of its state: with the weight 1 the total, with others what a promise is about.
-use mathlib.Core.Path.{_≡_, refl, ap, ap₂, _∙_}
+use mathlib.Core.Path.{_≡_, refl, ap, _∙_}
 use mathlib.Core.Logic.{_≢_}
 use mathlib.Core.Bool.{Bool, true, false, cond}
 use mathlib.Core.List.{List, [], _∷_, _++_}
 use Prim.Native.Nat.{ℕ, zero, suc, _+_, _*_, _≤_}
 use native.Mathlib.Omega.{arith}
 use lib.Dec.{eqb}
-use lib.ListN.{length, length-append}
-use borrow.Author.Tests.{eqb-true, eqb-false, eq-eqb}
+use lib.ListN.{length}
+use borrow.Author.Tests.{eqb-true, eqb-false}
 use Rattle.basics.specs.Sums.{sumOver}
 use Rattle.rules.specs.Ordered.{same, remove}
-use Rattle.rules.specs.Table.{State, state, unitsOf, order, rising, plus, listed, add, total, stateAt}
+use Rattle.rules.specs.Table.{State, unitsOf, order, rising, plus, listed, add, total, stateAt}
 use Rattle.rules.proofs.Lists.{Every}
 use Rattle.rules.proofs.Ordered.{length-insertAll, every-insertAll, sum-insertAll, InOrder, in-order-rises, in-order-insertAll, order-same, states-sort}
 

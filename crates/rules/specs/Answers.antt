@@ -1,4 +1,6 @@
--- What document 01 has for each case of an answer: the number of a refusal and nothing else, or the values with the number 0.
+-- Answers: document 01's number and values for each of their cases, and how the first reason to refuse is found.
+use mathlib.Core.Bool.{Bool, cond}
+use mathlib.Core.List.{List, [], _∷_}
 use Prim.Native.Nat.{ℕ}
 use Rattle.rules.specs.declared.Refusal.{Refusal}
 use Rattle.rules.specs.declared.Refusal.the-variants.{Text, Ways, Limit, Tracked, Accesses, Graph, Room, Row, SpreadRoom}
@@ -22,6 +24,23 @@ numberOf Graph = 5
 numberOf Room = 6
 numberOf Row = 7
 numberOf SpreadRoom = 8
+
+-- ---- the first that applies
+
+-- whether a reason applies, and the refusal that it gives
+pub record Reason : Type 0 where
+  pub applies : Bool
+  pub gives : Refusal
+
+abbrev pub when : Bool → Refusal → Reason
+when b r = record { applies = b; gives = r }
+
+-- reasons are checked in order
+abbrev pub first : List Reason → Verdict
+first [] = Accepted
+first (r ∷ rs) = cond (r .applies) (Refused (r .gives)) (first rs)
+
+-- ---- what each answer says
 
 -- what a verdict says: 0, or the refusal's number
 abbrev pub verdictSays : Verdict → ℕ

@@ -11,11 +11,15 @@ pub use Rattle.rules.specs.declared.Order.the-variants.{Before as before
 abbrev pub byNumber : ℕ → ℕ → Order
 byNumber a b = cond (ltb a b) before (cond (eqb a b) same after)
 
--- by the first, then by the second
+-- by the first, and where that is the same by the second
 abbrev pub thenBy : Order → Order → Order
 thenBy before o = before
 thenBy same o = o
 thenBy after o = after
+
+-- by one of its numbers, then by another
+abbrev pub byTwo : {A : Type 0} → (A → ℕ) → (A → ℕ) → A → A → Order
+byTwo p q s t = thenBy (byNumber (p s) (p t)) (byNumber (q s) (q t))
 
 abbrev pub isBefore : Order → Bool
 isBefore before = true

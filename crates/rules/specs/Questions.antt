@@ -1,16 +1,19 @@
 -- Questions put to a finished table: document 01, section 4.
-use mathlib.Core.Bool.{Bool, true, false, cond, _&&_}
+use mathlib.Core.Bool.{Bool, true, false, cond, _&&_, not}
 use mathlib.Core.List.{List, [], _∷_, _++_}
-use Prim.Native.Nat.{ℕ, zero, suc, max}
+use Prim.Native.Nat.{ℕ, zero, suc, _-_, max}
 use lib.Dec.{eqb, leb, ltb}
-use lib.ListN.{length}
+use lib.ListN.{length, replicate}
 use Rattle.basics.specs.Sums.{sumOver}
-use Rattle.rules.specs.declared.Refusal.the-variants.{Row}
+use Rattle.rules.specs.declared.Refusal.the-variants.{Row, SpreadRoom}
+use Rattle.rules.specs.declared.Verdict.{Verdict}
+use Rattle.rules.specs.declared.Verdict.the-variants.{Accepted, Refused}
 use Rattle.rules.specs.declared.Amount.{Amount}
 use Rattle.rules.specs.declared.Amount.the-variants.{Units as AmountOf, Refused as RefusedAmount}
 use Rattle.rules.specs.declared.Count.{Count}
 use Rattle.rules.specs.declared.Count.the-variants.{Misses, Refused as RefusedCount}
 use Rattle.rules.specs.Units.{whole, units}
+use Rattle.rules.specs.Answers.{Reason, when, first}
 use Rattle.rules.specs.Table.{State, unitsOf, rising, total}
 
 -- ---- what is accepted as a table
@@ -65,10 +68,35 @@ least test n = leastFrom test n (test 0) 0
 unfoldable pub smallestBudget : ℕ → List State → ℕ
 smallestBudget u T = least (λ B. leb (above B T) u) (largest T)
 
--- ---- the answers: 7 for a row that is no table
+-- ---- the answers: 7 for a row that is no table, then 8 for room that is too short
+
+abbrev pub rowReason : List State → Reason
+rowReason row = when (not (isTable row)) Row
+
+abbrev pub amount : Verdict → ℕ → Amount
+amount Accepted u = AmountOf (units u)
+amount (Refused r) u = RefusedAmount r
 
 unfoldable pub aboveAnswer : List State → ℕ → Amount
-aboveAnswer row B = cond (isTable row) (AmountOf (units (above B row))) (RefusedAmount Row)
+aboveAnswer row B = amount (first (rowReason row ∷ [])) (above B row)
+
+abbrev pub misses : Verdict → ℕ → Count
+misses Accepted m = Misses m
+misses (Refused r) m = RefusedCount r
 
 unfoldable pub budgetAnswer : List State → ℕ → Count
-budgetAnswer row u = cond (isTable row) (Misses (smallestBudget u row)) (RefusedCount Row)
+budgetAnswer row u = misses (first (rowReason row ∷ [])) (smallestBudget u row)
+
+-- what the spread answers, the largest miss count, and what it leaves in the lent room: the units at each count and then zeros; a
+-- refusal leaves the room as it was
+pub record SpreadAnswer : Type 0 where
+  pub answer : Count
+  pub room : List ℕ
+
+abbrev pub spreadInto : Verdict → List State → List ℕ → SpreadAnswer
+spreadInto Accepted row room =
+    record { answer = Misses (largest row); room = spread row ++ replicate (length room - suc (largest row)) 0 }
+spreadInto (Refused r) row room = record { answer = RefusedCount r; room = room }
+
+unfoldable pub spreadAnswer : List State → List ℕ → SpreadAnswer
+spreadAnswer row room = spreadInto (first (rowReason row ∷ when (ltb (length room) (suc (largest row))) SpreadRoom ∷ [])) row room

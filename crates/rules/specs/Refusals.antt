@@ -1,19 +1,19 @@
 -- When the work says no: document 01, section 5. Reasons are checked in this order; the first that applies is given.
-use mathlib.Core.Bool.{Bool, true, false, cond, _||_, _&&_, not}
+use mathlib.Core.Bool.{Bool, true, false, _||_, _&&_, not}
 use mathlib.Core.List.{List, [], _∷_, map}
 use Prim.Native.Nat.{ℕ, zero, suc}
 use lib.Dec.{eqb, ltb}
 use lib.ListN.{length}
 use Rattle.basics.specs.Sums.{sumOver}
-use Rattle.rules.specs.declared.Refusal.{Refusal}
 use Rattle.rules.specs.declared.Refusal.the-variants.{Ways, Limit, Tracked, Accesses, Graph, Room}
 use Rattle.rules.specs.declared.Verdict.{Verdict}
 use Rattle.rules.specs.declared.Verdict.the-variants.{Accepted, Refused}
 use Rattle.rules.specs.declared.Outcome.{Outcome}
 use Rattle.rules.specs.declared.Outcome.the-variants.{Finished, Refused as RefusedOutcome}
 use Rattle.rules.specs.Units.{units}
+use Rattle.rules.specs.Answers.{Reason, when, first}
 use Rattle.rules.specs.Contents.{among, once}
-use Rattle.rules.specs.Ordered.{Order, byNumber, thenBy, rises}
+use Rattle.rules.specs.Ordered.{Order, byTwo, rises}
 use Rattle.rules.specs.Input.{Input, nodes, Edge, edgesOf}
 use Rattle.rules.specs.Graph.{finished}
 
@@ -36,7 +36,7 @@ forward n (e ∷ es) = ltb (e .from) (e .to) && ltb (e .to) n && forward n es
 
 -- by to, then by from
 abbrev pub edgeOrder : Edge → Edge → Order
-edgeOrder e f = thenBy (byNumber (e .to) (f .to)) (byNumber (e .from) (f .from))
+edgeOrder e f = byTwo (λ e. e .to) (λ e. e .from) e f
 
 -- the test passes for each number below n
 abbrev pub eachBelow : ℕ → (ℕ → Bool) → Bool
@@ -57,14 +57,6 @@ edgesKept n ns = let es = edgesOf ns in inPairs ns && forward n es && rises edge
 
 -- ---- the table of section 5
 
--- whether a reason applies, and the refusal that it gives
-pub record Reason : Type 0 where
-  pub applies : Bool
-  pub gives : Refusal
-
-abbrev pub when : Bool → Refusal → Reason
-when b r = record { applies = b; gives = r }
-
 -- 1 to 6, in order
 unfoldable pub reasons : Input → List Reason
 reasons i =
@@ -77,11 +69,6 @@ reasons i =
     Graph
     ∷ when (ltb (i .resultRoom) (i .limit) || ltb (i .workingRoom) 5184) Room
     ∷ []
-
--- the first that applies
-abbrev pub first : List Reason → Verdict
-first [] = Accepted
-first (r ∷ rs) = cond (r .applies) (Refused (r .gives)) (first rs)
 
 unfoldable pub verdict : Input → Verdict
 verdict i = first (reasons i)

@@ -7,7 +7,7 @@ use lib.ListN.{getD}
 use Rattle.basics.specs.Sums.{sumOver}
 pub use Rattle.rules.specs.declared.State.{State}
 use Rattle.rules.specs.Units.{whole, units}
-use Rattle.rules.specs.Ordered.{Order, byNumber, thenBy, rises, insert, insertAll}
+use Rattle.rules.specs.Ordered.{Order, byTwo, rises, insertAll}
 
 -- a contents mask, a miss count and a number of units
 abbrev pub state : ℕ → ℕ → ℕ → State
@@ -22,7 +22,7 @@ begin = state 0 0 whole ∷ []
 
 -- by mask as a number, then by misses
 unfoldable pub order : State → State → Order
-order s t = thenBy (byNumber (s .mask) (t .mask)) (byNumber (s .misses) (t .misses))
+order s t = byTwo (λ s. s .mask) (λ s. s .misses) s t
 
 -- a table lists its states strictly rising
 abbrev pub rising : List State → Bool
@@ -31,10 +31,6 @@ rising T = rises order T
 -- states with equal mask and misses are added together
 abbrev pub plus : State → State → State
 plus t s = state (t .mask) (t .misses) (unitsOf t + unitsOf s)
-
--- a state comes into a table
-abbrev pub put : State → List State → List State
-put s T = insert order plus s T
 
 -- states of 0 units vanish
 abbrev pub listed : List State → List State
