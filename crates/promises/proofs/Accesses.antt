@@ -3,24 +3,24 @@
 use mathlib.Core.Path.{_≡_, refl, ap}
 use mathlib.Core.Bool.{Bool, true, false, cond}
 use mathlib.Core.List.{List, [], _∷_}
-use Prim.Native.Nat.{ℕ, suc, _+_, _*_, _%_, _≤_}
+use Prim.Native.Nat.{ℕ, suc, _+_, _*_, _%_, _≤_, _<_}
 use native.Mathlib.Nat.{mul-le-mul-left}
 use native.Mathlib.Omega.{arith}
 use Rattle.basics.specs.Sums.{sumOver}
 use Rattle.rules.specs.declared.Place.{Place}
 use Rattle.rules.specs.declared.State.{State}
 use Rattle.rules.specs.Contents.{size, has, with}
-use Rattle.rules.specs.Table.{unitsOf}
+use Rattle.rules.specs.Table.{unitsOf, total}
+use Rattle.rules.specs.Units.{whole}
 use Rattle.rules.specs.Step.{leftOver, access, accessAside}
 use Rattle.rules.proofs.Table.{worth}
-use Rattle.rules.proofs.Step.{overWays, ahead, aheadOf, alone, worth-access}
-use Rattle.rules.proofs.Run.{Fits}
+use Rattle.rules.proofs.Step.{overWays, ahead, Fits, aheadOf, alone, worth-access}
 use Rattle.promises.proofs.Value.{Rises, alone-most}
 
-module _ (N : ℕ) (x : Place) (f : ℕ → ℕ → ℕ) where
-  pub access-low : Rises N f → (T : List State) → Fits N T → worth (ahead N x f) T ≤ N * worth f (access N x T)
+module _ (N : ℕ) (x : Place) (some : 0 < N) (T : List State) (fits : Fits N T) (full : total T ≤ whole) (f : ℕ → ℕ → ℕ) where
+  pub access-low : Rises N f → worth (ahead N x f) T ≤ N * worth f (access N x T)
   unfolding leftOver
-  access-low rises T h = omega (arith, worth-access N x f T, all T h)
+  access-low rises = omega (arith, worth-access N x some T fits full f, all T fits)
     where
       one : (s : State) → size (s .mask) ≤ N → leftOver N x s * aheadOf N x f s ≤ N * (leftOver N x s * alone N x f s)
       one s l = go (has (s .mask) x)
@@ -37,18 +37,18 @@ module _ (N : ℕ) (x : Place) (f : ℕ → ℕ → ℕ) where
       all [] h = omega arith
       all (s ∷ T) h = omega (arith, all T (h .1), one s (h .0))
 
-  pub access-high : (B : ℕ) → ((m : ℕ) → f (with 0 x) m ≤ B) → (T : List State)
+  pub access-high : (B : ℕ) → ((m : ℕ) → f (with 0 x) m ≤ B)
       → N * worth f (access N x T) ≤ worth (ahead N x f) T + N * (accessAside N x T * B)
   unfolding accessAside
-  access-high B most T = omega (arith, worth-access N x f T, mul-le-mul-left N (all T))
+  access-high B most = omega (arith, worth-access N x some T fits full f, mul-le-mul-left N (all T))
     where
       all : (T : List State) → sumOver (λ s. leftOver N x s * alone N x f s) T ≤ sumOver (leftOver N x) T * B
       all [] = omega arith
       all (s ∷ T) = omega (arith, all T, mul-le-mul-left (leftOver N x s) (most (suc (s .misses))))
 
-  pub access-even : (T : List State) → accessAside N x T ≡ 0 → N * worth f (access N x T) ≡ worth (ahead N x f) T
+  pub access-even : accessAside N x T ≡ 0 → N * worth f (access N x T) ≡ worth (ahead N x f) T
   unfolding accessAside
-  access-even T e = omega (arith, worth-access N x f T, none (aheadOf N x f) T e, ap (N *_) (none (alone N x f) T e))
+  access-even e = omega (arith, worth-access N x some T fits full f, none (aheadOf N x f) T e, ap (N *_) (none (alone N x f) T e))
     where
       none : (g : State → ℕ) (T : List State) → sumOver (leftOver N x) T ≡ 0 → sumOver (λ s. leftOver N x s * g s) T ≡ 0
       none g [] e = refl

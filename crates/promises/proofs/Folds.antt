@@ -5,7 +5,7 @@ use mathlib.Core.Logic.{_⊎_, inl, inr, ⊎-elim}
 use mathlib.Core.Bool.{Bool, true, false, cond, _&&_}
 use mathlib.Core.List.{List}
 use Prim.Native.Nat.{ℕ, _+_, _*_, _≤_}
-use native.Mathlib.Nat.{le-trans, le-max-left, le-max-right, mul-le-mul-left}
+use native.Mathlib.Nat.{le-trans, le-of-eq, le-max-left, le-max-right, mul-le-mul-left}
 use native.Mathlib.Omega.{arith}
 use lib.Dec.{eqb}
 use borrow.Author.Tests.{eqb-true}
@@ -14,14 +14,14 @@ use Rattle.rules.specs.declared.State.{State}
 use Rattle.rules.specs.Units.{whole, more}
 use Rattle.rules.specs.Contents.{size}
 use Rattle.rules.specs.Ordered.{remove}
-use Rattle.rules.specs.Table.{unitsOf, Work}
+use Rattle.rules.specs.Table.{unitsOf, total, Work}
 use Rattle.rules.specs.Fold.{changed, foldAt, folded}
 use Rattle.rules.proofs.Splitting.{more-stops, more-cases}
 use Rattle.rules.proofs.Lists.{Every, every-remove}
 use Rattle.rules.proofs.Contents.{Sub, size-sub, sub-shared-left, sub-shared-right}
 use Rattle.rules.proofs.Table.{worthOf, worth}
 use Rattle.rules.proofs.Step.{Shaped}
-use Rattle.rules.proofs.Fold.{firstOf, secondOf, meetOf, fold-before, fold-after, asideOf, fold-aside, loose-at, shaped-fold, folded-keeps}
+use Rattle.rules.proofs.Fold.{firstOf, secondOf, meetOf, fold-before, fold-after, fold-total, asideOf, fold-aside, loose-at, shaped-fold, folded-keeps}
 use Rattle.promises.proofs.Value.{Rises}
 
 -- ---- the set-aside count
@@ -55,8 +55,9 @@ changed-none f s m = go (eqb (s .mask) (m .mask)) (eqb (s .misses) (m .misses)) 
 -- ---- what is kept from w to v
 
 module _ (N k M : ℕ) where
+  -- its states are in shape, and it has no more units than WHOLE
   abbrev InShape : Work → Type 0
-  InShape w = Every (Shaped N k M) (w .table)
+  InShape w = Every (Shaped N k M) (w .table) × (total (w .table) ≤ whole)
 
   pub record Kept (w v : Work) : Type 0 where
     pub shape : InShape w → InShape v
@@ -67,7 +68,7 @@ module _ (N k M : ℕ) where
         → (v .aside ≡ whole) ⊎ (worth f (v .table) + w .aside * B ≤ worth f (w .table) + v .aside * B)
     pub stopped : w .aside ≡ whole → v .aside ≡ whole
     -- the same, where nothing is set aside
-    pub even : v .aside ≡ 0 → (w .aside ≡ 0) × ((f : ℕ → ℕ → ℕ) → worth f (v .table) ≡ worth f (w .table))
+    pub even : InShape w → v .aside ≡ 0 → (w .aside ≡ 0) × ((f : ℕ → ℕ → ℕ) → worth f (v .table) ≡ worth f (w .table))
 
   kept-refl : (w : Work) → Kept w w
   kept-refl w =
@@ -76,7 +77,7 @@ module _ (N k M : ℕ) where
         low = λ f r h. omega arith;
         high = λ f B m h. inr (omega arith);
         stopped = λ e. e;
-        even = λ e. (e, λ f. refl);
+        even = λ h e. (e, λ f. refl);
       }
 
   kept-trans : (u v w : Work) → Kept u v → Kept v w → Kept u w
@@ -86,7 +87,7 @@ module _ (N k M : ℕ) where
         low = λ f r h. le-trans (a .low f r h) (b .low f r (a .shape h));
         high = λ f B m h. both f B (a .high f B m h) (b .high f B m (a .shape h));
         stopped = λ e. b .stopped (a .stopped e);
-        even = λ e. let (p, q) = b .even e in let (r, s) = a .even p in (r, λ f. q f ∙ s f);
+        even = λ h e. let (p, q) = b .even (a .shape h) e in let (r, s) = a .even h p in (r, λ f. q f ∙ s f);
       }
     where
       both : (f : ℕ → ℕ → ℕ) (B : ℕ) → (v .aside ≡ whole) ⊎ (worth f (v .table) + u .aside * B ≤ worth f (u .table) + v .aside * B)
@@ -99,9 +100,9 @@ module _ (N k M : ℕ) where
   pub kept-fold : (p : Pair) (w : Work) → Kept w (foldAt p w)
   kept-fold p w =
       record {
-        shape = shaped-fold N k M p w;
+        shape = λ h. (shaped-fold N k M p w (h .0), le-trans (le-of-eq (fold-total p w (h .1))) (h .1));
         low = λ f r h.
-            rw (← fold-before p T f, fold-after p T f (w .aside))
+            rw (← fold-before p T f, fold-after p T (h .1) f (w .aside))
             (omega (
               arith,
               mul-le-mul-left (unitsOf s) (r (m .mask) (s .mask) (m .misses) (s .misses) left (le-max-left _ _) (first h)),
@@ -110,9 +111,9 @@ module _ (N k M : ℕ) where
         high = λ f B most h. ⊎-elim (λ e. inl (fold-aside p T (w .aside) ∙ e)) (λ e. inr (grown f B most h (fold-aside p T (w .aside) ∙ e)))
             (more-cases (w .aside) (asideOf p T));
         stopped = λ e. fold-aside p T (w .aside) ∙ more-stops (w .aside) (asideOf p T) (omega arith);
-        even = λ e. let (a, n) = aside-none (w .aside) (asideOf p T) (sym (fold-aside p T (w .aside)) ∙ e) in (
+        even = λ h e. let (a, n) = aside-none (w .aside) (asideOf p T) (sym (fold-aside p T (w .aside)) ∙ e) in (
           a,
-          λ f. rw (← fold-before p T f, fold-after p T f (w .aside))
+          λ f. rw (← fold-before p T f, fold-after p T (h .1) f (w .aside))
               (omega (arith, changed-none f s m (omega arith), changed-none f t m (omega arith))),
         );
       }
@@ -136,10 +137,10 @@ module _ (N k M : ℕ) where
       right = sub-shared-right (s .mask) (t .mask)
 
       first : InShape w → size (s .mask) ≤ N
-      first h = loose-at N k M (p .fewest) T h .small
+      first h = loose-at N k M (p .fewest) T (h .0) .small
 
       second : InShape w → size (t .mask) ≤ N
-      second h = loose-at N k M (p .partner) (remove (p .fewest) T) (every-remove (Shaped N k M) (p .fewest) T h) .small
+      second h = loose-at N k M (p .partner) (remove (p .fewest) T) (every-remove (Shaped N k M) (p .fewest) T (h .0)) .small
 
       small : InShape w → size (m .mask) ≤ N
       small h = le-trans (size-sub _ _ left) (first h)
@@ -147,7 +148,7 @@ module _ (N k M : ℕ) where
       grown : (f : ℕ → ℕ → ℕ) (B : ℕ) → ((C m : ℕ) → size C ≤ N → f C m ≤ B) → InShape w → foldAt p w .aside ≡ w .aside + asideOf p T
           → worth f (foldAt p w .table) + w .aside * B ≤ worth f T + foldAt p w .aside * B
       grown f B most h e =
-          rw (e, ← fold-before p T f, fold-after p T f (w .aside))
+          rw (e, ← fold-before p T f, fold-after p T (h .1) f (w .aside))
           (omega (arith, changed-high f B s m (most _ _ (small h)), changed-high f B t m (most _ _ (small h))))
 
   pub kept-folded : (K : ℕ) (w : Work) → Kept w (folded K w)

@@ -5,7 +5,7 @@ use mathlib.Core.Bool.{Bool, true, false, cond, _||_, _&&_, true≢false}
 use mathlib.Core.List.{List, [], _∷_, _++_, map, flatMap, map-append, append-assoc, append-nil}
 use mathlib.Core.Logic.{_⊎_, inl, inr}
 use Prim.Native.Nat.{ℕ, _-_, _*_, _^_, _≤_, _<_}
-use native.Mathlib.Nat.{le-refl, le-trans, mul-le-mul-left}
+use native.Mathlib.Nat.{le-refl, le-trans, le-of-eq, mul-le-mul-left}
 use native.Mathlib.Omega.{arith}
 use lib.Dec.{eqb}
 use lib.ListN.{length, getD, take, drop, length-append}
@@ -19,13 +19,13 @@ use Rattle.rules.specs.declared.State.{State}
 use Rattle.rules.specs.Units.{whole}
 use Rattle.rules.specs.Contents.{among, find}
 use Rattle.rules.specs.Input.{Input, nodes, offset, runOf, Edge, edgesOf, predecessors}
-use Rattle.rules.specs.Table.{begin, Work}
+use Rattle.rules.specs.Table.{begin, total, Work}
 use Rattle.rules.specs.Run.{run}
 use Rattle.rules.specs.Fold.{folded}
 use Rattle.rules.specs.Join.{join}
 use Rattle.rules.specs.Graph.{Worked, tableAt, joinAll, enter, node, worked, finished}
 use Rattle.rules.proofs.Table.{worth}
-use Rattle.rules.proofs.Join.{shaped-join}
+use Rattle.rules.proofs.Join.{shaped-join, join-total}
 use Rattle.rules.proofs.Refusals.{Checked, predecessor-lower}
 use Rattle.rules.proofs.Run.{Table, table-join}
 use Rattle.rules.proofs.Graph.{nodeTable, table-stays, finished-table, first-and-others, table-enter, node-table}
@@ -46,11 +46,15 @@ module _ (N k K M : ℕ) (some : 0 < N) (room : 0 < K) where
       → Below S (folded K (record { table = join S T; aside = a }) .table) × Below T (folded K (record { table = join S T; aside = a }) .table)
   joined-above S T a s t = (λ f r. le-trans (above f r .0) (folds f r), λ f r. le-trans (above f r .1) (folds f r))
     where
+      full : total S ≤ whole
+      full = omega (arith, s .full)
+
       above : (f : ℕ → ℕ → ℕ) → Rises N f → (worth f S ≤ worth f (join S T)) × (worth f T ≤ worth f (join S T))
-      above f r = join-above N k M f r S T (s .shaped) (t .shaped) (s .full ∙ sym (t .full))
+      above f r = join-above N k M f r S T (s .shaped) (t .shaped) full (s .full ∙ sym (t .full))
 
       folds : (f : ℕ → ℕ → ℕ) → Rises N f → worth f (join S T) ≤ worth f (folded K (record { table = join S T; aside = a }) .table)
-      folds f r = kept-folded N k M K (record { table = join S T; aside = a }) .low f r (shaped-join N k M S T (s .shaped) (t .shaped))
+      folds f r = kept-folded N k M K (record { table = join S T; aside = a }) .low f r
+          (shaped-join N k M S T (s .shaped) (t .shaped), le-trans (le-of-eq (join-total S T (s .full ∙ sym (t .full)) full)) full)
 
   module _ (d : Worked) where
     abbrev Tables : List ℕ → Type 0

@@ -6,6 +6,7 @@ use Prim.Native.Nat.{ℕ, _*_, _≤_}
 use native.Mathlib.Nat.{le-max-left, le-max-right, mul-le-mul-left, add-le-add, le-refl}
 use Rattle.basics.specs.Sums.{sumOver}
 use Rattle.rules.specs.declared.State.{State}
+use Rattle.rules.specs.Units.{whole}
 use Rattle.rules.specs.Table.{total, stateAt}
 use Rattle.rules.specs.Join.{Match, matched, paired, fromFront, join}
 use Rattle.rules.proofs.Lists.{Every}
@@ -18,22 +19,24 @@ use Rattle.promises.proofs.Value.{Rises}
 
 -- by any pairing, where each pair weighs no less than the state on one side of it
 paired-above : (f : ℕ → ℕ → ℕ) (P : List Match) (S T : List State) (side : Match → ℕ) (U : List State) → Uses side P U
+    → Uses (λ p. p .left) P S → total S ≤ whole
     → ((p : Match) → f (stateAt U (side p) .mask) (stateAt U (side p) .misses) ≤ f (matched S T p .mask) (matched S T p .misses))
     → worth f U ≤ worth f (paired P S T)
-paired-above f P S T side U u above = rw (matched-worth side P U u f, paired-worth f P S T) (each P)
+paired-above f P S T side U u l full above = rw (matched-worth side P U u f, paired-worth P S T l full f) (each P)
   where
     each : (P : List Match) → sumOver (λ p. p .units * f (stateAt U (side p) .mask) (stateAt U (side p) .misses)) P
         ≤ sumOver (λ p. worthOf f (matched S T p)) P
     each [] = le-refl 0
     each (p ∷ P) = add-le-add (mul-le-mul-left (p .units) (above p)) (each P)
 
-module _ (N k M : ℕ) (f : ℕ → ℕ → ℕ) (rises : Rises N f) (S T : List State) (a : Every (Shaped N k M) S) (b : Every (Shaped N k M) T) where
+module _ (N k M : ℕ) (f : ℕ → ℕ → ℕ) (rises : Rises N f) (S T : List State) (a : Every (Shaped N k M) S) (b : Every (Shaped N k M) T)
+    (full : total S ≤ whole) where
   pub pairing-above : (P : List Match) → Uses (λ p. p .left) P S → Uses (λ p. p .right) P T
       → (worth f S ≤ worth f (paired P S T)) × (worth f T ≤ worth f (paired P S T))
   pairing-above P l r = (
-    paired-above f P S T (λ p. p .left) S l
+    paired-above f P S T (λ p. p .left) S l l full
         (λ p. rises _ _ _ _ (sub-shared-left _ _) (le-max-left _ _) (loose-at N k M (p .left) S a .small)),
-    paired-above f P S T (λ p. p .right) T r
+    paired-above f P S T (λ p. p .right) T r l full
         (λ p. rises _ _ _ _ (sub-shared-right _ _) (le-max-right _ _) (loose-at N k M (p .right) T b .small)),
   )
 

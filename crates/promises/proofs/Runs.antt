@@ -4,28 +4,28 @@ use mathlib.Core.Path.{_≡_, ap, _∙_}
 use mathlib.Core.Logic.{_⊎_, inl, inr}
 use mathlib.Core.List.{List, [], _∷_, map}
 use Prim.Native.Nat.{ℕ, suc, _+_, _*_, _^_, _≤_, _<_}
-use native.Mathlib.Nat.{le-trans, mul-le-mul-left, pow-zero, pow-succ'}
+use native.Mathlib.Nat.{le-trans, le-of-eq, mul-le-mul-left, pow-zero, pow-succ'}
 use native.Mathlib.Omega.{arith}
 use lib.ListN.{length, length-map}
 use Rattle.rules.specs.declared.Place.{Place}
 use Rattle.rules.specs.Units.{whole, more}
 use Rattle.rules.specs.Contents.{size, with, find}
-use Rattle.rules.specs.Table.{Work}
+use Rattle.rules.specs.Table.{total, Work}
 use Rattle.rules.specs.Step.{access, accessAside}
 use Rattle.rules.specs.Run.{advance, run}
 use Rattle.rules.proofs.Splitting.{more-stops, more-cases}
 use Rattle.rules.proofs.Lists.{Every}
 use Rattle.rules.proofs.Contents.{size-with, size-zero}
 use Rattle.rules.proofs.Table.{worth}
-use Rattle.rules.proofs.Step.{ahead, Shaped, Listed, access-shaped}
-use Rattle.rules.proofs.Run.{fits-shaped, Table, table-advance, find-listed}
+use Rattle.rules.proofs.Step.{ahead, Fits, Shaped, Listed, access-shaped, access-total}
+use Rattle.rules.proofs.Run.{Table, table-fits, table-advance, find-listed}
 use Rattle.promises.proofs.Value.{value, Rises, value-rises, value-most}
 use Rattle.promises.proofs.Accesses.{access-low, access-high, access-even}
 use Rattle.promises.proofs.Folds.{aside-none, Kept, kept-folded}
 
 -- ---- one access with its folds
 
-module _ (N k K M : ℕ) (x : Place) (some : 0 < N) (place : Listed k x) (w : Work) (shape : Every (Shaped N k M) (w .table)) where
+module _ (N k K M : ℕ) (x : Place) (some : 0 < N) (place : Listed k x) (w : Work) (t : Table N k K M (w .table)) where
   -- after the access, before the folds
   abbrev stepped : Work
   stepped = record { table = access N x (w .table); aside = more (w .aside) (accessAside N x (w .table)) }
@@ -34,12 +34,21 @@ module _ (N k K M : ℕ) (x : Place) (some : 0 < N) (place : Listed k x) (w : Wo
   unfolding advance
   kept = kept-folded N k (suc M) K stepped
 
-  after : Every (Shaped N k (suc M)) (access N x (w .table))
-  after = access-shaped N k M x some place (w .table) shape
+  fits : Fits N (w .table)
+  fits = table-fits N k K M (w .table) t
+
+  full : total (w .table) ≤ whole
+  full = omega (arith, t .full)
+
+  after : Every (Shaped N k (suc M)) (access N x (w .table)) × (total (access N x (w .table)) ≤ whole)
+  after = (
+    access-shaped N k M x some place (w .table) (t .shaped),
+    le-trans (le-of-eq (access-total N x some (w .table) fits full)) full,
+  )
 
   pub advance-low : (f : ℕ → ℕ → ℕ) → Rises N f → worth (ahead N x f) (w .table) ≤ N * worth f (advance N K x w .table)
   advance-low f rises =
-      le-trans (access-low N x f rises (w .table) (fits-shaped N k M (w .table) shape)) (mul-le-mul-left N (kept .low f rises after))
+      le-trans (access-low N x some (w .table) fits full f rises) (mul-le-mul-left N (kept .low f rises after))
 
   pub advance-stopped : w .aside ≡ whole → advance N K x w .aside ≡ whole
   advance-stopped e = kept .stopped (more-stops (w .aside) (accessAside N x (w .table)) (omega arith))
@@ -63,15 +72,15 @@ module _ (N k K M : ℕ) (x : Place) (some : 0 < N) (place : Listed k x) (w : Wo
             arith,
             mul-le-mul-left N h,
             ap (λ (a : ℕ). N * (a * B)) e,
-            access-high N x f B (λ m. most (with 0 x) m (omega (arith, size-with 0 x, size-zero))) (w .table),
+            access-high N x some (w .table) fits full f B (λ m. most (with 0 x) m (omega (arith, size-with 0 x, size-zero))),
           ))
 
   pub advance-even : advance N K x w .aside ≡ 0
       → (w .aside ≡ 0) × ((f : ℕ → ℕ → ℕ) → N * worth f (advance N K x w .table) ≡ worth (ahead N x f) (w .table))
   advance-even e =
-      let (p, same) = kept .even e in
+      let (p, same) = kept .even after e in
       let (q, none) = aside-none (w .aside) (accessAside N x (w .table)) p in
-      (q, λ f. ap (N *_) (same f) ∙ access-even N x f (w .table) none)
+      (q, λ f. ap (N *_) (same f) ∙ access-even N x some (w .table) fits full f none)
 
 -- ---- a run
 
@@ -93,7 +102,7 @@ module _ (N K : ℕ) (ts : List ℕ) (some : 0 < N) (room : 0 < K) where
       rw (pow-succ' N (length bs))
       (omega (
         arith,
-        advance-low N k K M (find ts b) some (find-listed ts b) w (t .shaped) (value F N (places bs)) (value-rises N F rises (places bs)),
+        advance-low N k K M (find ts b) some (find-listed ts b) w t (value F N (places bs)) (value-rises N F rises (places bs)),
         mul-le-mul-left N (run-low F rises (suc M) bs (advance N K (find ts b) w) (next M b w t)),
       ))
 
@@ -102,7 +111,7 @@ module _ (N K : ℕ) (ts : List ℕ) (some : 0 < N) (room : 0 < K) where
   run-stopped M [] w t e = e
   run-stopped M (b ∷ bs) w t e =
       run-stopped (suc M) bs (advance N K (find ts b) w) (next M b w t)
-      (advance-stopped N k K M (find ts b) some (find-listed ts b) w (t .shaped) e)
+      (advance-stopped N k K M (find ts b) some (find-listed ts b) w t e)
 
   pub run-high : (F : ℕ → ℕ → ℕ) → ((C m : ℕ) → F C m ≤ 1) → (M : ℕ) (bs : List ℕ) (w : Work) → Table N k K M (w .table)
       → (run N K ts bs w .aside ≡ whole)
@@ -111,7 +120,7 @@ module _ (N K : ℕ) (ts : List ℕ) (some : 0 < N) (room : 0 < K) where
   unfolding run value
   run-high F most M [] w t = inr (rw (pow-zero N) (omega arith))
   run-high F most M (b ∷ bs) w t =
-      go (advance-high N k K M (find ts b) some (find-listed ts b) w (t .shaped) (value F N (places bs)) (N ^ length bs) top)
+      go (advance-high N k K M (find ts b) some (find-listed ts b) w t (value F N (places bs)) (N ^ length bs) top)
       (run-high F most (suc M) bs v (next M b w t))
     where
       v : Work
@@ -142,5 +151,5 @@ module _ (N K : ℕ) (ts : List ℕ) (some : 0 < N) (room : 0 < K) where
   run-even F M (b ∷ bs) w t e =
       let v = advance N K (find ts b) w in
       let (p, rest) = run-even F (suc M) bs v (next M b w t) e in
-      let (q, here) = advance-even N k K M (find ts b) some (find-listed ts b) w (t .shaped) p in
+      let (q, here) = advance-even N k K M (find ts b) some (find-listed ts b) w t p in
       (q, rw (pow-succ' N (length bs)) (omega (arith, here (value F N (places bs)), ap (N *_) rest)))

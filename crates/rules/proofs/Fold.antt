@@ -4,7 +4,7 @@ use mathlib.Core.Path.{_≡_, refl, ap, _∙_}
 use mathlib.Core.Logic.{_≢_}
 use mathlib.Core.Bool.{Bool, true, false}
 use mathlib.Core.List.{List, [], _∷_}
-use Prim.Native.Nat.{ℕ, zero, suc, _+_, _≤_, _<_, zero-le}
+use Prim.Native.Nat.{ℕ, zero, suc, _+_, _*_, _≤_, _<_, zero-le}
 use native.Mathlib.Nat.{le-refl, le-trans, max-le, pos-of-ne-zero}
 use native.Mathlib.Omega.{arith}
 use lib.Dec.{leb}
@@ -14,8 +14,9 @@ use borrow.Author.Tests.{leb-true, leb-false}
 use Rattle.rules.specs.declared.Pair.{Pair}
 use Rattle.rules.specs.Ordered.{remove, best}
 use Rattle.rules.specs.Table.{State, state, unitsOf, total, stateAt, Work}
-use Rattle.rules.specs.Units.{more}
+use Rattle.rules.specs.Units.{whole, more}
 use Rattle.rules.specs.Fold.{fewer, closer, choice, meet, changed, foldAt, fold, foldsOf, folded}
+use Rattle.rules.proofs.Splitting.{more-adds}
 use Rattle.rules.proofs.Lists.{Every, every-remove, every-at, every-weaker, length-remove, best-lt}
 use Rattle.rules.proofs.Ordered.{in-order-remove}
 use Rattle.rules.proofs.Contents.{size-zero, size-sub, sub-shared-left, shared-lt}
@@ -36,16 +37,27 @@ module _ (p : Pair) (T : List State) where
   othersOf = remove (p .partner) (remove (p .fewest) T)
 
   abbrev pub meetOf : State
-  meetOf = meet firstOf secondOf (unitsOf firstOf + unitsOf secondOf)
+  meetOf = meet firstOf secondOf (more (unitsOf firstOf) (unitsOf secondOf))
 
   -- before: both states and the others
   pub fold-before : (f : ℕ → ℕ → ℕ) → worthOf f firstOf + (worthOf f secondOf + worth f othersOf) ≡ worth f T
   fold-before f = ap (worthOf f firstOf +_) (worth-remove f (p .partner) (remove (p .fewest) T)) ∙ worth-remove f (p .fewest) T
 
-  -- after: what they become and the others
-  pub fold-after : (f : ℕ → ℕ → ℕ) (a : ℕ) → worth f (foldAt p (record { table = T; aside = a }) .table) ≡ worthOf f meetOf + worth f othersOf
-  unfolding foldAt
-  fold-after f a = worth-add f (meetOf ∷ []) othersOf ∙ omega arith
+  -- after: the units of both, at what they become, and the others
+  pub fold-after : total T ≤ whole → (f : ℕ → ℕ → ℕ) (a : ℕ)
+      → worth f (foldAt p (record { table = T; aside = a }) .table)
+      ≡ (unitsOf firstOf + unitsOf secondOf) * f (meetOf .mask) (meetOf .misses) + worth f othersOf
+  unfolding foldAt total
+  fold-after h f a =
+      worth-add f (meetOf ∷ []) othersOf (omega (arith, all, sum, worth-total othersOf))
+      ∙ ap (λ (u : ℕ). u * f (meetOf .mask) (meetOf .misses) + 0 + worth f othersOf) sum
+      ∙ omega arith
+    where
+      all : unitsOf firstOf + unitsOf secondOf + worth one othersOf ≤ whole
+      all = omega (arith, fold-before one, worth-total T)
+
+      sum : unitsOf meetOf ≡ unitsOf firstOf + unitsOf secondOf
+      sum = more-adds (unitsOf firstOf) (unitsOf secondOf) (omega (arith, all))
 
   -- what it sets aside
   abbrev pub asideOf : ℕ
@@ -55,10 +67,10 @@ module _ (p : Pair) (T : List State) where
   unfolding foldAt
   fold-aside a = refl
 
-pub fold-total : (p : Pair) (w : Work) → total (foldAt p w .table) ≡ total (w .table)
-fold-total p w =
+pub fold-total : (p : Pair) (w : Work) → total (w .table) ≤ whole → total (foldAt p w .table) ≡ total (w .table)
+fold-total p w h =
     rw (← worth-total (foldAt p w .table), ← worth-total (w .table))
-    (omega (arith, fold-before p (w .table) one, fold-after p (w .table) one (w .aside)))
+    (omega (arith, fold-before p (w .table) one, fold-after p (w .table) h one (w .aside)))
 
 -- ---- its shape
 
@@ -106,8 +118,9 @@ folded-keeps Q keep K w h = go (length (w .table)) (leb (length (w .table)) K) w
     go (suc n) true w h = h
     go (suc n) false w h = go n (leb (length (fold w .table)) K) (fold w) (keep (choice (w .table)) w h)
 
-pub folded-total : (K : ℕ) (w : Work) → total (folded K w .table) ≡ total (w .table)
-folded-total K w = folded-keeps (λ v. total (v .table) ≡ total (w .table)) (λ p v e. fold-total p v ∙ e) K w refl
+pub folded-total : (K : ℕ) (w : Work) → total (w .table) ≤ whole → total (folded K w .table) ≡ total (w .table)
+folded-total K w h =
+    folded-keeps (λ v. total (v .table) ≡ total (w .table)) (λ p v e. fold-total p v (omega arith) ∙ e) K w refl
 
 pub rising-folded : (K : ℕ) (w : Work) → Rising (w .table) → Rising (folded K w .table)
 rising-folded K w h = folded-keeps (λ v. Rising (v .table)) rising-fold K w h

@@ -12,10 +12,11 @@ use lib.ListN.{length}
 use borrow.Author.Tests.{eqb-true, eq-eqb, ne-eqb}
 use Rattle.basics.specs.Sums.{sumOver}
 use Rattle.basics.proofs.Sums.{sum-map, sumTo, sum-eq, sum-add, sum-const, sum-list, sumOn, on-none, on-point}
+use Rattle.rules.specs.Units.{whole}
 use Rattle.rules.specs.Table.{State, state, unitsOf, total, stateAt}
 use Rattle.rules.specs.Join.{Match, matched, paired, less, leftAfter, placeAfter, walk, fromFront, join}
 use Rattle.rules.proofs.Lists.{Every, every-weaker}
-use Rattle.rules.proofs.Table.{Rising, rising-add, every-add, worthOf, worth, worth-add, one, worth-total}
+use Rattle.rules.proofs.Table.{Rising, rising-add, every-add, worthOf, worth, worth-add, total-add, one, worth-total}
 use Rattle.rules.proofs.Step.{Shaped, shaped-plus}
 use Rattle.rules.proofs.Fold.{shaped-meet, loose-at}
 
@@ -62,15 +63,28 @@ matched-worth side P T u f =
 
 -- ---- the join by it
 
-pub paired-worth : (f : ℕ → ℕ → ℕ) (P : List Match) (S T : List State)
-    → worth f (paired P S T) ≡ sumOver (λ m. worthOf f (matched S T m)) P
-unfolding paired
-paired-worth f P S T = worth-add f (map (matched S T) P) [] ∙ ap (_+ 0) (sum-map (worthOf f) (matched S T) P) ∙ omega arith
+module _ (P : List Match) (S T : List State) (uses : Uses (λ m. m .left) P S) (full : total S ≤ whole) where
+  -- as many units are paired as the first table has
+  units-paired : total (map (matched S T) P) ≡ total S
+  unfolding total
+  units-paired =
+      sum-map unitsOf (matched S T) P
+      ∙ omega (arith, matched-worth (λ m. m .left) P S uses one, worth-total S, each P)
+    where
+      each : (P : List Match) → sumOver (λ m. m .units * 1) P ≡ sumOver (λ m. m .units) P
+      each [] = refl
+      each (m ∷ P) = omega (arith, each P)
 
-pub paired-total : (P : List Match) (S T : List State) → Uses (λ m. m .left) P S → total (paired P S T) ≡ total S
-paired-total P S T u =
-    rw (← worth-total (paired P S T), ← worth-total S)
-    (paired-worth one P S T ∙ sym (matched-worth (λ m. m .left) P S u one))
+  pub paired-worth : (f : ℕ → ℕ → ℕ) → worth f (paired P S T) ≡ sumOver (λ m. worthOf f (matched S T m)) P
+  unfolding paired total
+  paired-worth f =
+      worth-add f (map (matched S T) P) [] (omega (arith, units-paired))
+      ∙ ap (_+ 0) (sum-map (worthOf f) (matched S T) P)
+      ∙ omega arith
+
+  pub paired-total : total (paired P S T) ≡ total S
+  unfolding paired total
+  paired-total = total-add (map (matched S T) P) [] (omega (arith, units-paired)) ∙ omega (arith, units-paired)
 
 pub rising-paired : (P : List Match) (S T : List State) → Rising (paired P S T)
 unfolding paired
@@ -215,9 +229,9 @@ front-uses S T e = let w = walk-uses (length S + length T) 0 0 S T (le-refl _) e
 
 -- ---- the join
 
-pub join-total : (S T : List State) → total S ≡ total T → total (join S T) ≡ total S
+pub join-total : (S T : List State) → total S ≡ total T → total S ≤ whole → total (join S T) ≡ total S
 unfolding join
-join-total S T e = paired-total (fromFront S T) S T (front-uses S T e .0)
+join-total S T e full = paired-total (fromFront S T) S T (front-uses S T e .0) full
 
 pub rising-join : (S T : List State) → Rising (join S T)
 unfolding join

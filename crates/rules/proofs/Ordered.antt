@@ -51,23 +51,30 @@ module _ {A : Type 0} (order : A → A → Order) (plus : A → A → A) where
     every-insertAll [] T h a = a
     every-insertAll (s ∷ S) T h a = every-insertAll S (insert order plus s T) (h .1) (every-insert s T (h .0) a)
 
-  -- a sum to which adding adds
-  module _ (F : A → ℕ) (adds : (s t : A) → order s t ≡ same → F (plus t s) ≡ F t + F s) where
-    pub sum-insert : (s : A) (T : List A) → sumOver F (insert order plus s T) ≡ F s + sumOver F T
+  -- adding adds to F, as long as G comes to no more than B
+  module _ (G : A → ℕ) (B : ℕ) where
+    abbrev pub Adds : (A → ℕ) → Type 0
+    Adds F = (s t : A) → order s t ≡ same → G t + G s ≤ B → F (plus t s) ≡ F t + F s
+
+    pub sum-insert : (F : A → ℕ) → Adds F → (s : A) (T : List A) → G s + sumOver G T ≤ B
+        → sumOver F (insert order plus s T) ≡ F s + sumOver F T
     unfolding insert
-    sum-insert s [] = refl
-    sum-insert s (t ∷ T) = go (order s t) refl (sum-insert s T)
+    sum-insert F adds s [] h = refl
+    sum-insert F adds s (t ∷ T) h = go (order s t) refl (sum-insert F adds s T (omega arith))
       where
         go : (o : Order) → order s t ≡ o → sumOver F (insert order plus s T) ≡ F s + sumOver F T
             → sumOver F (inserted order plus o s t T (insert order plus s T)) ≡ F s + sumOver F (t ∷ T)
         go before e ih = refl
-        go same e ih = omega (arith, adds s t e)
+        go same e ih = omega (arith, adds s t e (omega arith))
         go after e ih = omega arith
 
-    pub sum-insertAll : (S T : List A) → sumOver F (insertAll order plus S T) ≡ sumOver F S + sumOver F T
+    pub sum-insertAll : (F : A → ℕ) → Adds F → Adds G → (S T : List A) → sumOver G S + sumOver G T ≤ B
+        → sumOver F (insertAll order plus S T) ≡ sumOver F S + sumOver F T
     unfolding insertAll
-    sum-insertAll [] T = omega arith
-    sum-insertAll (s ∷ S) T = omega (arith, sum-insertAll S (insert order plus s T), sum-insert s T)
+    sum-insertAll F adds adds-G [] T h = omega arith
+    sum-insertAll F adds adds-G (s ∷ S) T h =
+        let t = sum-insert G adds-G s T (omega arith) in
+        omega (arith, sum-insertAll F adds adds-G S (insert order plus s T) (omega arith), sum-insert F adds s T (omega arith))
 
 -- ---- rising
 

@@ -18,13 +18,9 @@ use Rattle.rules.proofs.Lists.{Every, every-weaker}
 use Rattle.rules.proofs.Contents.{size-zero}
 use Rattle.rules.proofs.Lookup.{find-at}
 use Rattle.rules.proofs.Table.{Rising, rising-add}
-use Rattle.rules.proofs.Step.{Shaped, Listed, access-shaped, access-total, length-access}
+use Rattle.rules.proofs.Step.{Fits, Shaped, Listed, access-shaped, access-total, length-access}
 use Rattle.rules.proofs.Fold.{rising-folded, shaped-folded, folded-total, length-folded}
 use Rattle.rules.proofs.Join.{rising-join, shaped-join, join-total}
-
--- no contents hold more blocks than there are ways
-abbrev pub Fits : ℕ → List State → Type 0
-Fits N T = Every (λ s. size (s .mask) ≤ N) T
 
 pub fits-shaped : (N k M : ℕ) (T : List State) → Every (Shaped N k M) T → Fits N T
 fits-shaped N k M T h = every-weaker (Shaped N k M) (λ s. size (s .mask) ≤ N) (λ s p. p .0 .small) T h
@@ -68,7 +64,7 @@ module _ (N k K : ℕ) (some : 0 < N) (room : 0 < K) where
         rises = rising-folded K w r;
         short = length-folded K w room;
         shaped = shaped-folded N k M K w s;
-        full = folded-total K w ∙ e;
+        full = folded-total K w (omega arith) ∙ e;
       }
 
   rising-access : (x : Place) (T : List State) → Rising (access N x T)
@@ -79,12 +75,12 @@ module _ (N k K : ℕ) (some : 0 < N) (room : 0 < K) where
   unfolding advance
   table-advance M x w l t =
       table-folded (suc M) _ (rising-access x (w .table)) (access-shaped N k M x some l (w .table) (t .shaped))
-      (access-total N x (w .table) some (table-fits N k K M (w .table) t) ∙ t .full)
+      (access-total N x some (w .table) (table-fits N k K M (w .table) t) (omega (arith, t .full)) ∙ t .full)
 
   pub table-join : (M : ℕ) (S T : List State) (a : ℕ) → Table N k K M S → Table N k K M T
       → Table N k K M (folded K (record { table = join S T; aside = a }) .table)
   table-join M S T a s t =
-      table-folded M _ (rising-join S T) (shaped-join N k M S T (s .shaped) (t .shaped)) (join-total S T (s .full ∙ sym (t .full)) ∙ s .full)
+      table-folded M _ (rising-join S T) (shaped-join N k M S T (s .shaped) (t .shaped)) (join-total S T (s .full ∙ sym (t .full)) (omega (arith, s .full)) ∙ s .full)
 
 -- an access lists at most 17 × K states before adding
 pub access-room : (N k K M : ℕ) (x : Place) (T : List State) → N ≤ 16 → Table N k K M T → length (listed (flatMap (successors N x) T)) ≤ 17 * K

@@ -1,9 +1,10 @@
 -- A count that stops at WHOLE, and the division of units among ways.
 use mathlib.Core.Path.{_≡_, refl}
-use mathlib.Core.Logic.{_⊎_, inl, inr}
+use mathlib.Core.Logic.{_⊎_, inl, inr, ⊎-elim}
 use Prim.Native.Nat.{ℕ, _+_, _/_, _%_, _≤_}
 use native.Mathlib.Nat.{min-eq-left, min-eq-right, le-of-lt, lt-of-not-le, div-zero, mod-zero}
 use native.Mathlib.Decide.{decLe}
+use native.Mathlib.Omega.{arith}
 use Rattle.rules.specs.declared.Units.{Units}
 use Rattle.rules.specs.Units.{whole, units, more, splitOf, addOf}
 
@@ -24,6 +25,10 @@ more-cases a n = go (decLe (a + n) whole)
     go : Dec (a + n ≤ whole) → (more a n ≡ whole) ⊎ (more a n ≡ a + n)
     go (yes h) = inr (more-adds a n h)
     go (no h) = inl (more-stops a n (le-of-lt (lt-of-not-le h)))
+
+-- what was there stays
+pub more-least : (a n : ℕ) → 1 ≤ a → 1 ≤ more a n
+more-least a n h = ⊎-elim (λ e. omega arith) (λ e. omega arith) (more-cases a n)
 
 -- ---- the types' methods
 

@@ -16,11 +16,13 @@ use borrow.Author.Tests.{eq-eqb}
 use Rattle.basics.specs.Sums.{sumOver}
 use Rattle.basics.proofs.Sums.{sum-append, sum-map, sum-times, sum-each}
 use Rattle.rules.specs.Contents.{places, Place, at, bit, has, with, without, held, size}
+use Rattle.rules.specs.Units.{whole}
 use Rattle.rules.specs.Table.{State, unitsOf, plus, listed, total}
 use Rattle.rules.specs.Step.{missed, miss, successors, leftOver, access}
+use Rattle.rules.proofs.Splitting.{more-least}
 use Rattle.rules.proofs.Lists.{Every, every-append, every-map, every-flatMap}
 use Rattle.rules.proofs.Contents.{size-zero, size-with, size-moved, every-held, with-lt, without-lt}
-use Rattle.rules.proofs.Table.{length-listed-append, length-listed, every-add, worthOf, worth, worth-add, one, worth-total}
+use Rattle.rules.proofs.Table.{length-listed-append, length-listed, every-add, worthOf, worth, worth-add, total-add, one, worth-total}
 
 -- ---- worth
 
@@ -82,25 +84,25 @@ module _ (N : ℕ) (x : Place) (f : ℕ → ℕ → ℕ) where
           (ring (unitsOf s / N) (unitsOf s % N) (alone s)
           ∙ ap (λ (u : ℕ). u * S + N * (unitsOf s % N * alone s)) (div-add-mod (unitsOf s) N))
 
-  pub worth-access : (T : List State)
-      → N * worth f (access N x T) + sumOver (λ s. leftOver N x s * aheadOf s) T
+  -- all states' successors, before adding
+  worth-all : (T : List State)
+      → N * worth f (flatMap (successors N x) T) + sumOver (λ s. leftOver N x s * aheadOf s) T
       ≡ worth (ahead N x f) T + N * sumOver (λ s. leftOver N x s * alone s) T
-  unfolding access flatMap
-  worth-access T = rw (worth-add f (flatMap (successors N x) T) []) (omega (arith, before T))
-    where
-      before : (T : List State)
-          → N * worth f (flatMap (successors N x) T) + sumOver (λ s. leftOver N x s * aheadOf s) T
-          ≡ worth (ahead N x f) T + N * sumOver (λ s. leftOver N x s * alone s) T
-      before [] = omega arith
-      before (s ∷ T) =
-          omega (
-            arith,
-            before T,
-            worth-successors s,
-            ap (N *_) (sum-append (worthOf f) (successors N x s) (flatMap (successors N x) T)),
-          )
+  unfolding flatMap
+  worth-all [] = omega arith
+  worth-all (s ∷ T) =
+      omega (
+        arith,
+        worth-all T,
+        worth-successors s,
+        ap (N *_) (sum-append (worthOf f) (successors N x s) (flatMap (successors N x) T)),
+      )
 
 -- ---- the total
+
+-- no contents hold more blocks than there are ways
+abbrev pub Fits : ℕ → List State → Type 0
+Fits N T = Every (λ s. size (s .mask) ≤ N) T
 
 -- the ways that are left, as a number of its own, so that no difference is multiplied
 pub others : (N n : ℕ) → n ≤ N → (r : ℕ) × (N ≡ n + r) × (N - n ≡ r)
@@ -120,19 +122,37 @@ ahead-one N x C m h = go (has C x)
     go true = omega arith
     go false = overWays-each N C 1 h ∙ omega arith
 
-pub access-total : (N : ℕ) (x : Place) (T : List State) → 0 < N → Every (λ s. size (s .mask) ≤ N) T → total (access N x T) ≡ total T
-access-total N x T some h =
-    rw (← worth-total (access N x T), ← worth-total T)
-    (eq-of-mul-eq-mul-left N some _ _ (omega (arith, worth-access N x one T, units T h, shares T h)))
-  where
-    units : (T : List State) → Every (λ s. size (s .mask) ≤ N) T → worth (ahead N x one) T ≡ N * worth one T
-    units [] h = omega arith
-    units (s ∷ T) h = rw (ahead-one N x (s .mask) (s .misses) (h .0)) (omega (arith, units T (h .1)))
+module _ (N : ℕ) (x : Place) (some : 0 < N) where
+  -- all units go on
+  successors-total : (T : List State) → Fits N T → total (flatMap (successors N x) T) ≡ total T
+  successors-total T h =
+      rw (← worth-total (flatMap (successors N x) T), ← worth-total T)
+      (eq-of-mul-eq-mul-left N some _ _ (omega (arith, worth-all N x one T, units T h, shares T h)))
+    where
+      units : (T : List State) → Fits N T → worth (ahead N x one) T ≡ N * worth one T
+      units [] h = omega arith
+      units (s ∷ T) h = rw (ahead-one N x (s .mask) (s .misses) (h .0)) (omega (arith, units T (h .1)))
 
-    shares : (T : List State) → Every (λ s. size (s .mask) ≤ N) T
-        → sumOver (λ s. leftOver N x s * aheadOf N x one s) T ≡ N * sumOver (λ s. leftOver N x s * 1) T
-    shares [] h = omega arith
-    shares (s ∷ T) h = rw (ahead-one N x (s .mask) (s .misses) (h .0)) (omega (arith, shares T (h .1)))
+      shares : (T : List State) → Fits N T
+          → sumOver (λ s. leftOver N x s * aheadOf N x one s) T ≡ N * sumOver (λ s. leftOver N x s * 1) T
+      shares [] h = omega arith
+      shares (s ∷ T) h = rw (ahead-one N x (s .mask) (s .misses) (h .0)) (omega (arith, shares T (h .1)))
+
+  module _ (T : List State) (fits : Fits N T) (full : total T ≤ whole) where
+    room-to-add : total (flatMap (successors N x) T) + total [] ≤ whole
+    unfolding total
+    room-to-add = omega (arith, successors-total T fits)
+
+    -- what the table is worth to the access ahead, and N times what it is worth after it
+    pub worth-access : (f : ℕ → ℕ → ℕ)
+        → N * worth f (access N x T) + sumOver (λ s. leftOver N x s * aheadOf N x f s) T
+        ≡ worth (ahead N x f) T + N * sumOver (λ s. leftOver N x s * alone N x f s) T
+    unfolding access
+    worth-access f = rw (worth-add f (flatMap (successors N x) T) [] room-to-add) (omega (arith, worth-all N x f T))
+
+    pub access-total : total (access N x T) ≡ total T
+    unfolding access total
+    access-total = total-add (flatMap (successors N x) T) [] room-to-add ∙ omega (arith, successors-total T fits)
 
 -- ---- shape
 
@@ -147,7 +167,7 @@ abbrev pub Shaped : ℕ → ℕ → ℕ → State → Type 0
 Shaped N k M s = Loose N k M s × (1 ≤ unitsOf s)
 
 pub shaped-plus : (N k M : ℕ) (t s : State) → Shaped N k M t → Shaped N k M (plus t s)
-shaped-plus N k M t s h = (record { masked = h .0 .masked; few = h .0 .few; small = h .0 .small }, omega arith)
+shaped-plus N k M t s h = (record { masked = h .0 .masked; few = h .0 .few; small = h .0 .small }, more-least (unitsOf t) (unitsOf s) (h .1))
 
 -- x is one of k places, or untracked
 abbrev pub Listed : ℕ → Place → Type 0
@@ -248,7 +268,7 @@ module _ (N : ℕ) (x : Place) where
           )
 
   -- at most N + 1 for each state, 17 with 16 ways
-  pub length-access : (T : List State) → Every (λ s. size (s .mask) ≤ N) T → length (listed (flatMap (successors N x) T)) ≤ length T * suc N
+  pub length-access : (T : List State) → Fits N T → length (listed (flatMap (successors N x) T)) ≤ length T * suc N
   unfolding flatMap
   length-access [] h = omega arith
   length-access (s ∷ T) h =

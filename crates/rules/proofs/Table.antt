@@ -1,7 +1,7 @@
 -- States added to a table: it keeps rising, it grows by no more states than are listed, each state keeps what adding does not
 -- break, and it is worth what both were. The worth of a table is its units, each times a weight that goes with the contents and the
 -- misses of its state: with the weight 1 the total, with others what a promise is about.
-use mathlib.Core.Path.{_≡_, refl, ap, _∙_}
+use mathlib.Core.Path.{_≡_, refl, sym, ap, ap₂, _∙_}
 use mathlib.Core.Logic.{_≢_}
 use mathlib.Core.Bool.{Bool, true, false, cond}
 use mathlib.Core.List.{List, [], _∷_, _++_}
@@ -11,8 +11,10 @@ use lib.Dec.{eqb}
 use lib.ListN.{length}
 use borrow.Author.Tests.{eqb-true, eqb-false}
 use Rattle.basics.specs.Sums.{sumOver}
+use Rattle.rules.specs.Units.{whole}
 use Rattle.rules.specs.Ordered.{same, remove}
 use Rattle.rules.specs.Table.{State, unitsOf, order, rising, plus, listed, add, total, stateAt}
+use Rattle.rules.proofs.Splitting.{more-adds}
 use Rattle.rules.proofs.Lists.{Every}
 use Rattle.rules.proofs.Ordered.{length-insertAll, every-insertAll, sum-insertAll, InOrder, in-order-rises, in-order-insertAll, order-same, states-sort}
 
@@ -75,6 +77,15 @@ worthOf f s = unitsOf s * f (s .mask) (s .misses)
 abbrev pub worth : (ℕ → ℕ → ℕ) → List State → ℕ
 worth f T = sumOver (worthOf f) T
 
+-- the weight 1 gives the total
+abbrev pub one : ℕ → ℕ → ℕ
+one C m = 1
+
+pub worth-total : (T : List State) → worth one T ≡ total T
+unfolding total
+worth-total [] = refl
+worth-total (s ∷ T) = omega (arith, worth-total T)
+
 worth-listed : (f : ℕ → ℕ → ℕ) (S : List State) → worth f (listed S) ≡ worth f S
 worth-listed f [] = refl
 worth-listed f (s ∷ S) = go (eqb (unitsOf s) 0) refl (worth-listed f S)
@@ -84,12 +95,21 @@ worth-listed f (s ∷ S) = go (eqb (unitsOf s) 0) refl (worth-listed f S)
     go true e h = rw (eqb-true (unitsOf s) 0 e) (omega arith)
     go false e h = ap (worthOf f s +_) h
 
-pub worth-add : (f : ℕ → ℕ → ℕ) (S T : List State) → worth f (add S T) ≡ worth f S + worth f T
-unfolding add
-worth-add f S T = sum-insertAll order plus (worthOf f) adds (listed S) T ∙ ap (_+ worth f T) (worth-listed f S)
+total-listed : (S : List State) → total (listed S) ≡ total S
+total-listed S = sym (worth-total (listed S)) ∙ worth-listed one S ∙ worth-total S
+
+-- where there are no more units than WHOLE, no sum stops
+pub worth-add : (f : ℕ → ℕ → ℕ) (S T : List State) → total S + total T ≤ whole → worth f (add S T) ≡ worth f S + worth f T
+unfolding add total
+worth-add f S T h =
+    sum-insertAll order plus unitsOf whole (worthOf f) adds (λ s t e l. more-adds (unitsOf t) (unitsOf s) l) (listed S) T (omega (arith, total-listed S))
+    ∙ ap (_+ worth f T) (worth-listed f S)
   where
-    adds : (s t : State) → order s t ≡ same → worthOf f (plus t s) ≡ worthOf f t + worthOf f s
-    adds s t e = let (p, q) = order-same s t e in rw (p, q) (omega arith)
+    adds : (s t : State) → order s t ≡ same → unitsOf t + unitsOf s ≤ whole → worthOf f (plus t s) ≡ worthOf f t + worthOf f s
+    adds s t e l = let (p, q) = order-same s t e in rw (p, q, more-adds (unitsOf t) (unitsOf s) l) (omega arith)
+
+pub total-add : (S T : List State) → total S + total T ≤ whole → total (add S T) ≡ total S + total T
+total-add S T h = sym (worth-total (add S T)) ∙ worth-add one S T h ∙ ap₂ _+_ (worth-total S) (worth-total T)
 
 -- a state taken out; one that is not there has no units
 pub worth-remove : (f : ℕ → ℕ → ℕ) (i : ℕ) (T : List State) → worthOf f (stateAt T i) + worth f (remove i T) ≡ worth f T
@@ -97,12 +117,3 @@ unfolding remove
 worth-remove f i [] = omega arith
 worth-remove f zero (t ∷ T) = refl
 worth-remove f (suc i) (t ∷ T) = omega (arith, worth-remove f i T)
-
--- the weight 1 gives the total
-abbrev pub one : ℕ → ℕ → ℕ
-one C m = 1
-
-pub worth-total : (T : List State) → worth one T ≡ total T
-unfolding total
-worth-total [] = refl
-worth-total (s ∷ T) = omega (arith, worth-total T)

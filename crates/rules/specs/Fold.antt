@@ -50,7 +50,7 @@ foldAt p w =
     let s = stateAt (w .table) (p .fewest) in
     let others = remove (p .fewest) (w .table) in
     let t = stateAt others (p .partner) in
-    let m = meet s t (unitsOf s + unitsOf t) in
+    let m = meet s t (more (unitsOf s) (unitsOf t)) in
     record {
       table = add (m ∷ []) (remove (p .partner) others);
       aside = more (w .aside) (changed s m + changed t m);

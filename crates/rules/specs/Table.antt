@@ -1,12 +1,12 @@
 -- States and tables: document 01, section 3.
 use mathlib.Core.Bool.{Bool, cond}
 use mathlib.Core.List.{List, [], _∷_}
-use Prim.Native.Nat.{ℕ, _+_}
+use Prim.Native.Nat.{ℕ}
 use lib.Dec.{eqb}
 use lib.ListN.{getD}
 use Rattle.basics.specs.Sums.{sumOver}
 pub use Rattle.rules.specs.declared.State.{State}
-use Rattle.rules.specs.Units.{whole, units}
+use Rattle.rules.specs.Units.{whole, units, more}
 use Rattle.rules.specs.Ordered.{Order, byTwo, rises, insertAll}
 
 -- a contents mask, a miss count and a number of units
@@ -28,9 +28,9 @@ order s t = byTwo (λ s. s .mask) (λ s. s .misses) s t
 abbrev pub rising : List State → Bool
 rising T = rises order T
 
--- states with equal mask and misses are added together
+-- states with equal mask and misses are added together; the sum stops at WHOLE, and in a table there are no more units than that
 abbrev pub plus : State → State → State
-plus t s = state (t .mask) (t .misses) (unitsOf t + unitsOf s)
+plus t s = state (t .mask) (t .misses) (more (unitsOf t) (unitsOf s))
 
 -- states of 0 units vanish
 abbrev pub listed : List State → List State
