@@ -16,11 +16,11 @@ use Rattle.rules.specs.Contents.{size}
 use Rattle.rules.specs.Ordered.{remove}
 use Rattle.rules.specs.Table.{unitsOf, total, Work}
 use Rattle.rules.specs.Fold.{changed, foldAt, folded}
+use Rattle.rules.specs.Shape.{Every, Shaped}
 use Rattle.rules.proofs.Splitting.{more-stops, more-cases}
-use Rattle.rules.proofs.Lists.{Every, every-remove}
+use Rattle.rules.proofs.Lists.{every-remove}
 use Rattle.rules.proofs.Contents.{Sub, size-sub, sub-shared-left, sub-shared-right}
 use Rattle.rules.proofs.Table.{worthOf, worth}
-use Rattle.rules.proofs.Step.{Shaped}
 use Rattle.rules.proofs.Fold.{firstOf, secondOf, meetOf, fold-before, fold-after, fold-total, asideOf, fold-aside, loose-at, shaped-fold, folded-keeps}
 use Rattle.promises.proofs.Value.{Rises}
 

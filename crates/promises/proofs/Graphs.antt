@@ -24,10 +24,11 @@ use Rattle.rules.specs.Run.{run}
 use Rattle.rules.specs.Fold.{folded}
 use Rattle.rules.specs.Join.{join}
 use Rattle.rules.specs.Graph.{Worked, tableAt, joinAll, enter, node, worked, finished}
+use Rattle.rules.specs.Shape.{Table}
 use Rattle.rules.proofs.Table.{worth}
 use Rattle.rules.proofs.Join.{shaped-join, join-total}
 use Rattle.rules.proofs.Refusals.{Checked, predecessor-lower}
-use Rattle.rules.proofs.Run.{Table, table-join}
+use Rattle.rules.proofs.Run.{table-join}
 use Rattle.rules.proofs.Graph.{nodeTable, table-stays, finished-table, first-and-others, table-enter, node-table}
 use Rattle.promises.specs.Paths.{linked, leads, isPath, accessesOf}
 use Rattle.promises.proofs.Value.{value, Rises, value-rises, value-append}

@@ -9,10 +9,9 @@ use Rattle.rules.specs.declared.State.{State}
 use Rattle.rules.specs.Units.{whole}
 use Rattle.rules.specs.Table.{total, stateAt}
 use Rattle.rules.specs.Join.{Match, matched, paired, fromFront, join}
-use Rattle.rules.proofs.Lists.{Every}
+use Rattle.rules.specs.Shape.{Every, Shaped}
 use Rattle.rules.proofs.Contents.{sub-shared-left, sub-shared-right}
 use Rattle.rules.proofs.Table.{worthOf, worth}
-use Rattle.rules.proofs.Step.{Shaped}
 use Rattle.rules.proofs.Fold.{loose-at}
 use Rattle.rules.proofs.Join.{Uses, matched-worth, paired-worth, front-uses}
 use Rattle.promises.proofs.Value.{Rises}

@@ -13,12 +13,12 @@ use Rattle.rules.specs.Contents.{size, with, find}
 use Rattle.rules.specs.Table.{total, Work}
 use Rattle.rules.specs.Step.{access, accessAside}
 use Rattle.rules.specs.Run.{advance, run}
+use Rattle.rules.specs.Shape.{Every, Listed, Shaped, Table}
 use Rattle.rules.proofs.Splitting.{more-stops, more-cases}
-use Rattle.rules.proofs.Lists.{Every}
 use Rattle.rules.proofs.Contents.{size-with, size-zero}
 use Rattle.rules.proofs.Table.{worth}
-use Rattle.rules.proofs.Step.{ahead, Fits, Shaped, Listed, access-shaped, access-total}
-use Rattle.rules.proofs.Run.{Table, table-fits, table-advance, find-listed}
+use Rattle.rules.proofs.Step.{ahead, Fits, access-shaped, access-total}
+use Rattle.rules.proofs.Run.{table-fits, table-advance, find-listed}
 use Rattle.promises.proofs.Value.{value, Rises, value-rises, value-most}
 use Rattle.promises.proofs.Accesses.{access-low, access-high, access-even}
 use Rattle.promises.proofs.Folds.{aside-none, Kept, kept-folded}

@@ -15,7 +15,8 @@ use Rattle.rules.specs.Contents.{places, bit, heldBelow, held, size, wit
 use Rattle.basics.specs.Sums.{sumOver}
 use Rattle.basics.proofs.Bools.{and-left, and-right}
 use Rattle.basics.proofs.Sums.{sumOn, sum-append, sum-each, sum-le, on-none, on-point, on-most}
-use Rattle.rules.proofs.Lists.{Every, every-append, every-weaker}
+use Rattle.rules.specs.Shape.{Every}
+use Rattle.rules.proofs.Lists.{every-append, every-weaker}
 use Rattle.rules.proofs.Bits.{bit-and, bit-or, bit-xor, bit-pow, bit-zero, bit-below}
 
 -- each block of C is in D

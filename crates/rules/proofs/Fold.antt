@@ -16,12 +16,13 @@ use Rattle.rules.specs.Ordered.{remove, best}
 use Rattle.rules.specs.Table.{State, state, unitsOf, total, stateAt, Work}
 use Rattle.rules.specs.Units.{whole, more}
 use Rattle.rules.specs.Fold.{fewer, closer, choice, meet, changed, foldAt, fold, foldsOf, folded}
+use Rattle.rules.specs.Shape.{Every, Loose, Shaped}
 use Rattle.rules.proofs.Splitting.{more-adds}
-use Rattle.rules.proofs.Lists.{Every, every-remove, every-at, every-weaker, length-remove, best-lt}
+use Rattle.rules.proofs.Lists.{every-remove, every-at, every-weaker, length-remove, best-lt}
 use Rattle.rules.proofs.Ordered.{in-order-remove}
 use Rattle.rules.proofs.Contents.{size-zero, size-sub, sub-shared-left, shared-lt}
 use Rattle.rules.proofs.Table.{Rising, rising-add, length-add-all, every-add, worthOf, worth, worth-add, worth-remove, one, worth-total}
-use Rattle.rules.proofs.Step.{Loose, Shaped, shaped-plus}
+use Rattle.rules.proofs.Step.{shaped-plus}
 
 -- ---- the parts of a fold
 

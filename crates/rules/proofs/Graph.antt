@@ -18,8 +18,9 @@ use Rattle.rules.specs.Contents.{among}
 use Rattle.rules.specs.Input.{Input, nodes, offset, runOf, edgesOf, predecessors}
 use Rattle.rules.specs.Table.{State, begin, Work}
 use Rattle.rules.specs.Graph.{Worked, tableAt, joinAll, enter, node, worked, finished}
+use Rattle.rules.specs.Shape.{Table}
 use Rattle.rules.proofs.Refusals.{Checked, predecessor-lower}
-use Rattle.rules.proofs.Run.{Table, table-wider, table-begin, table-join, table-run}
+use Rattle.rules.proofs.Run.{table-wider, table-begin, table-join, table-run}
 
 -- ---- the nodes that are worked
 

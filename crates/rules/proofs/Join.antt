@@ -15,9 +15,10 @@ use Rattle.basics.proofs.Sums.{sum-map, sumTo, sum-eq, sum-add, sum-const, sum-
 use Rattle.rules.specs.Units.{whole}
 use Rattle.rules.specs.Table.{State, state, unitsOf, total, stateAt}
 use Rattle.rules.specs.Join.{Match, matched, paired, less, leftAfter, placeAfter, walk, fromFront, join}
-use Rattle.rules.proofs.Lists.{Every, every-weaker}
+use Rattle.rules.specs.Shape.{Every, Shaped}
+use Rattle.rules.proofs.Lists.{every-weaker}
 use Rattle.rules.proofs.Table.{Rising, rising-add, every-add, worthOf, worth, worth-add, total-add, one, worth-total}
-use Rattle.rules.proofs.Step.{Shaped, shaped-plus}
+use Rattle.rules.proofs.Step.{shaped-plus}
 use Rattle.rules.proofs.Fold.{shaped-meet, loose-at}
 
 -- ---- a pairing that uses each state's units exactly

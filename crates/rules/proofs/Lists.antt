@@ -6,11 +6,8 @@ use Prim.Native.Nat.{ℕ, zero, suc, _+_, _<_, _≤_}
 use native.Mathlib.Nat.{not-suc-le-zero, le-of-suc-le-suc}
 use native.Mathlib.Omega.{arith}
 use lib.ListN.{length, getD}
+use Rattle.rules.specs.Shape.{Every}
 use Rattle.rules.specs.Ordered.{remove, bestFrom, best}
-
-abbrev pub Every : {A : Type 0} → (A → Type 0) → List A → Type 0
-Every P [] = Unit {0}
-Every P (x ∷ xs) = P x × Every P xs
 
 module _ {A : Type 0} (P : A → Type 0) where
   pub every-append : (xs ys : List A) → Every P xs → Every P ys → Every P (xs ++ ys)

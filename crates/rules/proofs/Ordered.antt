@@ -13,7 +13,8 @@ use Rattle.basics.specs.Sums.{sumOver}
 use Rattle.basics.proofs.Bools.{and-left, and-right}
 use Rattle.rules.specs.Ordered.{Order, before, same, after, byNumber, thenBy, byTwo, isBefore, rises, inserted, insert, insertAll, remove}
 use Rattle.rules.specs.Table.{State, order, plus}
-use Rattle.rules.proofs.Lists.{Every, every-weaker, every-remove}
+use Rattle.rules.specs.Shape.{Every}
+use Rattle.rules.proofs.Lists.{every-weaker, every-remove}
 
 -- ---- insertion
 

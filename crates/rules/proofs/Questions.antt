@@ -20,11 +20,8 @@ use Rattle.rules.specs.Table.{State, unitsOf, rising, total}
 use Rattle.rules.specs.Graph.{finished}
 use Rattle.rules.specs.Questions.{fitting, allFitting, isTable, largest, above, leastFrom, least, smallestBudget}
 use Rattle.rules.specs.Refusals.{outcome}
-use Rattle.rules.proofs.Lists.{Every}
-use Rattle.rules.proofs.Table.{rising-is}
-use Rattle.rules.proofs.Step.{Shaped}
+use Rattle.rules.specs.Shape.{Every, Shaped, Table}
 use Rattle.rules.proofs.Refusals.{Checked, accepted}
-use Rattle.rules.proofs.Run.{Table}
 use Rattle.rules.proofs.Graph.{finished-table, node-table}
 
 -- ---- the units above a budget
@@ -108,7 +105,7 @@ table-is N k K M T a b c t =
     (both _ (allFitting T)
     (both _ (rising T)
     (both _ (leb (length T) 64) (le-leb 1 (length T) (some T (t .full))) (le-leb (length T) 64 (le-trans (t .short) b)))
-    (rising-is T (t .rises)))
+    (t .rises))
     (all-fit N k M T a c (t .shaped)))
     (eq-eqb (total T) whole (t .full))
   where

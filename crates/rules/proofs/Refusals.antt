@@ -20,7 +20,7 @@ use Rattle.rules.specs.Ordered.{before, byNumber, rises}
 use Rattle.rules.specs.Input.{Input, nodes, Edge, edgesOf, predecessors}
 use Rattle.rules.specs.Graph.{finished}
 use Rattle.rules.specs.Refusals.{outside, forward, inPairs, edgeOrder, entered, left, edgesKept, reasons, verdict, answered, outcome}
-use Rattle.rules.proofs.Lists.{Every}
+use Rattle.rules.specs.Shape.{Every}
 use Rattle.rules.proofs.Ordered.{InOrder, in-order-rises, rises-in-order, number-before, two-before, two-onward}
 
 -- ---- no reason applies

@@ -14,23 +14,17 @@ use Rattle.rules.specs.Step.{successors, access}
 use Rattle.rules.specs.Fold.{folded}
 use Rattle.rules.specs.Run.{advance, run}
 use Rattle.rules.specs.Join.{join}
-use Rattle.rules.proofs.Lists.{Every, every-weaker}
+use Rattle.rules.specs.Shape.{Every, Listed, Shaped, Table}
+use Rattle.rules.proofs.Lists.{every-weaker}
 use Rattle.rules.proofs.Contents.{size-zero}
 use Rattle.rules.proofs.Lookup.{find-at}
-use Rattle.rules.proofs.Table.{Rising, rising-add}
-use Rattle.rules.proofs.Step.{Fits, Shaped, Listed, access-shaped, access-total, length-access}
+use Rattle.rules.proofs.Table.{Rising, rising-is, rising-add}
+use Rattle.rules.proofs.Step.{Fits, access-shaped, access-total, length-access}
 use Rattle.rules.proofs.Fold.{rising-folded, shaped-folded, folded-total, length-folded}
 use Rattle.rules.proofs.Join.{rising-join, shaped-join, join-total}
 
 pub fits-shaped : (N k M : ℕ) (T : List State) → Every (Shaped N k M) T → Fits N T
 fits-shaped N k M T h = every-weaker (Shaped N k M) (λ s. size (s .mask) ≤ N) (λ s p. p .0 .small) T h
-
--- N ways, k tracked blocks, at most K states, after at most M accesses
-pub record Table (N k K M : ℕ) (T : List State) : Type 0 where
-  pub rises : Rising T
-  pub short : length T ≤ K
-  pub shaped : Every (Shaped N k M) T
-  pub full : total T ≡ whole
 
 pub table-fits : (N k K M : ℕ) (T : List State) → Table N k K M T → Fits N T
 table-fits N k K M T t = fits-shaped N k M T (t .shaped)
@@ -50,7 +44,7 @@ module _ (N k K : ℕ) (some : 0 < N) (room : 0 < K) where
   unfolding total
   table-begin =
       record {
-        rises = (tt, tt);
+        rises = refl;
         short = omega arith;
         shaped = ((record { masked = pow-pos k; few = omega arith; small = omega (arith, size-zero) }, omega arith), tt);
         full = refl;
@@ -61,7 +55,7 @@ module _ (N k K : ℕ) (some : 0 < N) (room : 0 < K) where
       → Table N k K M (folded K w .table)
   table-folded M w r s e =
       record {
-        rises = rising-folded K w r;
+        rises = rising-is (folded K w .table) (rising-folded K w r);
         short = length-folded K w room;
         shaped = shaped-folded N k M K w s;
         full = folded-total K w (omega arith) ∙ e;

@@ -15,12 +15,13 @@ use lib.Pow.{pow-pos}
 use borrow.Author.Tests.{eq-eqb}
 use Rattle.basics.specs.Sums.{sumOver}
 use Rattle.basics.proofs.Sums.{sum-append, sum-map, sum-times, sum-each}
-use Rattle.rules.specs.Contents.{places, Place, at, bit, has, with, without, held, size}
+use Rattle.rules.specs.Contents.{places, Place, bit, has, with, without, held, size}
 use Rattle.rules.specs.Units.{whole}
 use Rattle.rules.specs.Table.{State, unitsOf, plus, listed, total}
 use Rattle.rules.specs.Step.{missed, miss, successors, leftOver, access}
+use Rattle.rules.specs.Shape.{Every, Listed, Shaped}
 use Rattle.rules.proofs.Splitting.{more-least}
-use Rattle.rules.proofs.Lists.{Every, every-append, every-map, every-flatMap}
+use Rattle.rules.proofs.Lists.{every-append, every-map, every-flatMap}
 use Rattle.rules.proofs.Contents.{size-zero, size-with, size-moved, every-held, with-lt, without-lt}
 use Rattle.rules.proofs.Table.{length-listed-append, length-listed, every-add, worthOf, worth, worth-add, total-add, one, worth-total}
 
@@ -156,22 +157,8 @@ module _ (N : ℕ) (x : Place) (some : 0 < N) where
 
 -- ---- shape
 
--- a mask of k bits, at most M misses, no more blocks than ways
-pub record Loose (N k M : ℕ) (s : State) : Type 0 where
-  pub masked : s .mask < 2 ^ k
-  pub few : s .misses ≤ M
-  pub small : size (s .mask) ≤ N
-
--- and at least 1 unit
-abbrev pub Shaped : ℕ → ℕ → ℕ → State → Type 0
-Shaped N k M s = Loose N k M s × (1 ≤ unitsOf s)
-
 pub shaped-plus : (N k M : ℕ) (t s : State) → Shaped N k M t → Shaped N k M (plus t s)
 shaped-plus N k M t s h = (record { masked = h .0 .masked; few = h .0 .few; small = h .0 .small }, more-least (unitsOf t) (unitsOf s) (h .1))
-
--- x is one of k places, or untracked
-abbrev pub Listed : ℕ → Place → Type 0
-Listed k x = (i : ℕ) → x ≡ at i → i < k
 
 module _ (N k M : ℕ) (x : Place) (some : 0 < N) (place : Listed k x) where
   -- a state of the list, if it has units

@@ -14,8 +14,8 @@ use Rattle.basics.specs.Sums.{sumOver}
 use Rattle.rules.specs.Units.{whole}
 use Rattle.rules.specs.Ordered.{same, remove}
 use Rattle.rules.specs.Table.{State, unitsOf, order, rising, plus, listed, add, total, stateAt}
+use Rattle.rules.specs.Shape.{Every}
 use Rattle.rules.proofs.Splitting.{more-adds}
-use Rattle.rules.proofs.Lists.{Every}
 use Rattle.rules.proofs.Ordered.{length-insertAll, every-insertAll, sum-insertAll, InOrder, in-order-rises, in-order-insertAll, order-same, states-sort}
 
 -- ---- states of 0 units vanish

@@ -7,6 +7,7 @@ pub mod Input
 -- Section 3: states and steps
 pub mod Ordered
 pub mod Table
+pub mod Shape
 pub mod Step
 pub mod Fold
 pub mod Run
