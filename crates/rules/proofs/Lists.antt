@@ -5,7 +5,7 @@ use mathlib.Core.List.{List, [], _∷_, _++_, map, flatMap}
 use Prim.Native.Nat.{ℕ, zero, suc, _+_, _<_, _≤_}
 use native.Mathlib.Nat.{not-suc-le-zero, le-of-suc-le-suc}
 use native.Mathlib.Omega.{arith}
-use lib.ListN.{length, getD}
+use lib.ListN.{length, getD, take}
 use Rattle.rules.specs.Shape.{Every}
 use Rattle.rules.specs.Ordered.{remove, bestFrom, best}
 
@@ -19,6 +19,11 @@ module _ {A : Type 0} (P : A → Type 0) where
   every-remove i [] h = tt
   every-remove zero (t ∷ T) h = h .1
   every-remove (suc i) (t ∷ T) h = (h .0, every-remove i T (h .1))
+
+  pub every-take : (i : ℕ) (T : List A) → Every P T → Every P (take i T)
+  every-take zero T h = tt
+  every-take (suc i) [] h = tt
+  every-take (suc i) (t ∷ T) h = (h .0, every-take i T (h .1))
 
   -- at a place, where what stands past the end has it too
   pub every-at : (z : A) → P z → (i : ℕ) (T : List A) → Every P T → P (getD T i z)

@@ -8,7 +8,7 @@ use Prim.Native.Nat.{ℕ, zero, suc, _+_, _≤_, _<_}
 use native.Mathlib.Omega.{arith}
 use lib.Dec.{eqb, ltb}
 use lib.ListN.{length}
-use borrow.Author.Tests.{ltb-true, ltb-false, eqb-true, eqb-false, lt-ltb, le-ltb, eq-eqb}
+use borrow.Author.Tests.{ltb-true, ltb-false, eqb-true, eqb-false, lt-ltb, le-ltb, eq-eqb, ne-eqb}
 use Rattle.basics.specs.Sums.{sumOver}
 use Rattle.basics.proofs.Bools.{and-left, and-right}
 use Rattle.rules.specs.Ordered.{Order, before, same, after, byNumber, thenBy, byTwo, isBefore, rises, inserted, insert, insertAll, remove}
@@ -138,7 +138,7 @@ module _ {A : Type 0} (order : A → A → Order) where
 
 -- ---- two numbers
 
-number-cases : (a b : ℕ) (P : Order → Type 0) → (a < b → P before) → (a ≡ b → P same) → (b < a → P after) → P (byNumber a b)
+pub number-cases : (a b : ℕ) (P : Order → Type 0) → (a < b → P before) → (a ≡ b → P same) → (b < a → P after) → P (byNumber a b)
 number-cases a b P f g h = go (ltb a b) (eqb a b) refl refl
   where
     go : (l e : Bool) → ltb a b ≡ l → eqb a b ≡ e → P (cond l before (cond e same after))
@@ -148,6 +148,9 @@ number-cases a b P f g h = go (ltb a b) (eqb a b) refl refl
 
 pub number-before : (a b : ℕ) → a < b → byNumber a b ≡ before
 number-before a b l = rw (lt-ltb a b l)
+
+number-after : (a b : ℕ) → b < a → byNumber a b ≡ after
+number-after a b l = rw (le-ltb a b (omega arith), ne-eqb a b (λ e. absurd (omega arith)))
 
 number-same : (a b : ℕ) → a ≡ b → byNumber a b ≡ same
 number-same a b e = rw (le-ltb a b (omega arith), eq-eqb a b e)
@@ -190,6 +193,14 @@ module _ {A : Type 0} (p q : A → ℕ) where
   pub two-onward : (s t u : A) → byTwo p q s t ≡ before → byTwo p q t u ≡ before → byTwo p q s u ≡ before
   two-onward s t u a b = less-before s u (less-trans s t u (two-before s t a) (two-before t u b))
 
+  less-after : (s t : A) → Less t s → byTwo p q s t ≡ after
+  less-after s t (inl l) = rw (number-after (p s) (p t) l)
+  less-after s t (inr (e, l)) = rw (number-same (p s) (p t) (sym e), number-after (q s) (q t) l)
+
+  -- what stands after t stands after all before t
+  pub two-after : (s t u : A) → byTwo p q s t ≡ after → byTwo p q u t ≡ before → byTwo p q s u ≡ after
+  two-after s t u a b = less-after s u (less-trans u t s (two-before u t b) (rw a at (says s t)))
+
   pub two-turned : (s t : A) → byTwo p q s t ≡ after → byTwo p q t s ≡ before
   two-turned s t e = less-before t s (rw e at (says s t))
 
@@ -198,6 +209,10 @@ module _ {A : Type 0} (p q : A → ℕ) where
 pub order-same : (s t : State) → order s t ≡ same → (s .mask ≡ t .mask) × (s .misses ≡ t .misses)
 unfolding order
 order-same s t e = two-same (λ s. s .mask) (λ s. s .misses) s t e
+
+pub order-after : (s t u : State) → order s t ≡ after → order u t ≡ before → order s u ≡ after
+unfolding order
+order-after s t u a b = two-after (λ s. s .mask) (λ s. s .misses) s t u a b
 
 pub states-sort : Sorts order plus
 unfolding order

@@ -12,11 +12,11 @@ use lib.ListN.{length}
 use borrow.Author.Tests.{eqb-true, eqb-false}
 use Rattle.basics.specs.Sums.{sumOver}
 use Rattle.rules.specs.Units.{whole}
-use Rattle.rules.specs.Ordered.{same, remove}
+use Rattle.rules.specs.Ordered.{same, insert, insertAll, remove}
 use Rattle.rules.specs.Table.{State, unitsOf, order, rising, plus, listed, add, total, stateAt}
 use Rattle.rules.specs.Shape.{Every}
 use Rattle.rules.proofs.Splitting.{more-adds}
-use Rattle.rules.proofs.Ordered.{length-insertAll, every-insertAll, sum-insertAll, InOrder, in-order-rises, in-order-insertAll, order-same, states-sort}
+use Rattle.rules.proofs.Ordered.{length-insertAll, every-insertAll, sum-insertAll, InOrder, in-order-rises, rises-in-order, in-order-insertAll, order-same, states-sort}
 
 -- ---- states of 0 units vanish
 
@@ -53,6 +53,9 @@ Rising T = InOrder order T
 pub rising-is : (T : List State) → Rising T → rising T ≡ true
 rising-is T h = in-order-rises order T h
 
+pub rising-so : (T : List State) → rising T ≡ true → Rising T
+rising-so T h = rises-in-order order (states-sort .onward) T h
+
 pub rising-add : (S T : List State) → Rising T → Rising (add S T)
 unfolding add
 rising-add S T h = in-order-insertAll order plus states-sort (listed S) T h
@@ -68,6 +71,24 @@ pub every-add : (P : State → Type 0) → ((t s : State) → P t → P (plus t 
     → Every (λ s. unitsOf s ≢ 0 → P s) S → Every P T → Every P (add S T)
 unfolding add
 every-add P lasts S T h a = every-insertAll order plus P lasts (listed S) T (every-listed P S h) a
+
+-- one list after the other
+pub add-append : (S S′ T : List State) → add (S ++ S′) T ≡ add S′ (add S T)
+unfolding add insertAll
+add-append S S′ T = ap (λ (X : List State). insertAll order plus X T) (listed-append S S′) ∙ all-append (listed S) (listed S′) T
+  where
+    listed-append : (S S′ : List State) → listed (S ++ S′) ≡ listed S ++ listed S′
+    listed-append [] S′ = refl
+    listed-append (s ∷ S) S′ = go (eqb (unitsOf s) 0) (listed-append S S′)
+      where
+        go : (b : Bool) → listed (S ++ S′) ≡ listed S ++ listed S′
+            → cond b (listed (S ++ S′)) (s ∷ listed (S ++ S′)) ≡ cond b (listed S) (s ∷ listed S) ++ listed S′
+        go true h = h
+        go false h = ap (s ∷_) h
+
+    all-append : (X Y T : List State) → insertAll order plus (X ++ Y) T ≡ insertAll order plus Y (insertAll order plus X T)
+    all-append [] Y T = refl
+    all-append (x ∷ X) Y T = all-append X Y (insert order plus x T)
 
 -- ---- worth
 

@@ -1,0 +1,12 @@
+-- Tables in lent words
+pub mod InWords
+-- States put where they belong
+pub mod Insertion
+-- Masks, and looking up a block
+pub mod Masks
+-- The scratch of the working room
+pub mod Scratch
+-- The states that follow
+pub mod Following
+-- When the work says no
+pub mod Reasons

@@ -1,0 +1,16 @@
+-- `meet` has the shared blocks and the larger miss count.
+use Rattle.rules.specs.Contents.{shared}
+use borrow.Author.Needs.{needs}
+use Rattle.estimate.proofs.states.meet.Statement.{statement}
+use Rattle.estimate.proofs.states.meet.Tie as tie
+
+returns : tie.Need-returns
+unfolding shared
+returns c = rw (c .larger .ensures)
+
+pub meet-spec : {M : Type 1} → statement M
+meet-spec =
+    tie.close
+    (tie.spec
+    (λ c κs. search needs)
+    returns)

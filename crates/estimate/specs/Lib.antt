@@ -1,0 +1,10 @@
+-- Tables in lent words
+pub mod Words
+-- States put where they belong
+pub mod Placing
+-- The working room: a slot for each node, and the scratch behind them
+pub mod Rooms
+-- The states that follow
+pub mod Following
+-- The edges of a flat list
+pub mod Edges

@@ -1,0 +1,36 @@
+-- States put into the first n states of a list T, which are r states then.
+use mathlib.Core.Path.{_≡_}
+use mathlib.Core.Bool.{Bool, true, false, cond}
+use mathlib.Core.List.{List, [], _∷_}
+use Prim.Native.Nat.{ℕ, suc}
+use lib.ListN.{length, take}
+use Rattle.rules.specs.declared.State.{State}
+use Rattle.rules.specs.declared.Order.{Order}
+use Rattle.rules.specs.declared.Order.the-variants.{Before as before, Same as same, After as after}
+use Rattle.rules.specs.Ordered.{insert}
+use Rattle.rules.specs.Table.{order, plus, add}
+
+abbrev pub isAfter : Order → Bool
+isAfter before = false
+isAfter same = false
+isAfter after = true
+
+abbrev pub isSame : Order → Bool
+isSame before = false
+isSame same = true
+isSame after = false
+
+-- how many of the first states stand before s
+unfoldable pub placeOf : State → List State → ℕ
+placeOf s [] = 0
+placeOf s (t ∷ T) = cond (isAfter (order s t)) (suc (placeOf s T)) 0
+
+-- s is inserted
+pub record Inserted (s : State) (n r : ℕ) (T T′ : List State) : Type 0 where
+  pub count : r ≡ length (insert order plus s (take n T))
+  pub table : take r T′ ≡ insert order plus s (take n T)
+
+-- the states S are added; those of 0 units vanish
+pub record Added (S : List State) (n r : ℕ) (T T′ : List State) : Type 0 where
+  pub count : r ≡ length (add S (take n T))
+  pub table : take r T′ ≡ add S (take n T)

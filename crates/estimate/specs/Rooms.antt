@@ -1,0 +1,49 @@
+-- The working room, as states: 64 slots of 64 states, a node's table in each, and behind them, from place 4,096 on, the scratch.
+use mathlib.Core.Path.{_≡_}
+use mathlib.Core.Bool.{cond}
+use mathlib.Core.List.{List, [], _∷_, _++_}
+use Prim.Native.Nat.{ℕ, zero, suc, _*_}
+use lib.Dec.{eqb}
+use lib.ListN.{length, take, drop}
+use Rattle.rules.specs.declared.State.{State}
+use Rattle.rules.specs.Table.{unitsOf, Work}
+
+-- ---- the scratch
+
+-- the r states X stand in the scratch, and the slots are as they were
+pub record InScratch (X : List State) (r : ℕ) (T T′ : List State) : Type 0 where
+  pub count : r ≡ length X
+  pub table : take r (drop 4096 T′) ≡ X
+  pub slots : take 4096 T′ ≡ take 4096 T
+
+-- ---- a table at a place
+
+-- w in the first n states of T, with the count a: how many states it has, the states, the set-aside count
+pub record Stands (w : Work) (n a : ℕ) (T : List State) : Type 0 where
+  pub count : n ≡ length (w .table)
+  pub table : take n T ≡ w .table
+  pub aside : a ≡ w .aside
+
+-- w at place p, and what is before that place is as it was
+pub record InPlace (w : Work) (p n a : ℕ) (T T′ : List State) : Type 0 where
+  pub stands : Stands w n a (drop p T′)
+  pub before : take p T′ ≡ take p T
+
+-- ---- the slots
+
+-- how many states stand before the first of 0 units
+unfoldable pub filled : List State → ℕ
+filled [] = 0
+filled (s ∷ T) = cond (eqb (unitsOf s) 0) 0 (suc (filled T))
+
+-- slot j, and the table in it
+abbrev pub slotOf : ℕ → List State → List State
+slotOf j T = take 64 (drop (j * 64) T)
+
+unfoldable pub tableIn : ℕ → List State → List State
+tableIn j T = take (filled (slotOf j T)) (slotOf j T)
+
+-- the tables in the first j slots
+unfoldable pub tablesIn : ℕ → List State → List (List State)
+tablesIn zero T = []
+tablesIn (suc j) T = tablesIn j T ++ (tableIn j T ∷ [])

@@ -1,0 +1,145 @@
+// One access: the states that follow those of a table.
+use crate::contents::has_place;
+use crate::contents::size_of;
+use crate::contents::with_block;
+use crate::contents::without_place;
+use crate::placing::add;
+use crate::states::Tally;
+use crate::words::load;
+use rules::Place;
+use rules::State;
+use rules::Units;
+ghost use mathlib.Core.Path.{_≡_};
+ghost use mathlib.Core.Bool.{true};
+ghost use mathlib.Core.List.{map};
+ghost use Prim.Native.Nat.{_+_, _*_, _≤_, _<_};
+ghost use lib.ListN.{length, take, drop};
+ghost use Rattle.rules.specs.Units.{whole, more};
+ghost use Rattle.rules.specs.Contents.{without, held};
+ghost use Rattle.rules.specs.Table.{rising};
+ghost use Rattle.rules.specs.Step.{missed as missedOf, miss as missOf, successors, leftOver, access, accessAside};
+ghost use Rattle.rules.specs.Shape.{Every, Listed};
+ghost use Rattle.estimate.specs.Words.{tableOf};
+ghost use Rattle.estimate.specs.Placing.{Added};
+ghost use Rattle.estimate.specs.Rooms.{InScratch};
+ghost use Rattle.estimate.specs.Following.{lostAt, Workable};
+
+// From `s`, one miss more: `mask` with the accessed block, and `units`.
+pub(crate) fn missed(s: State, x: Place, mask: u64, units: Units) -> State
+    requires { ⌜ Listed 16 x × (s .misses ≤ 4095) ⌝ }
+    ensures { λ r. ⌜ r ≡ missedOf x s mask (units .0) ⌝ }
+{
+    State {
+        mask: with_block(mask, x),
+        misses: s.misses + 1,
+        units,
+    }
+}
+
+// What a way that holds the block at place `at` makes of `s`, where `s` holds that block.
+pub(crate) fn lose_one(
+    words: &mut [u64],
+    n: usize,
+    s: State,
+    x: Place,
+    part: Units,
+    at: usize,
+) -> usize
+    requires { ⌜ Listed 16 x × (s .misses ≤ 4095) × (at < 16) × (n * 3 + 3 ≤ length (now words)) × (rising (take n (tableOf (now words))) ≡ true) ⌝ }
+    ensures { λ r. ⌜ Added (lostAt x s (part .0) at) n r (tableOf (now (words .entry))) (tableOf (now (words .exit))) ⌝ }
+{
+    if has_place(s.mask, at) {
+        return add(words, n, missed(s, x, without_place(s.mask, at), part));
+    }
+    n
+}
+
+// Each block of `s` is lost in turn.
+pub(crate) fn lose_each(words: &mut [u64], n: usize, s: State, x: Place, part: Units) -> usize
+    requires { ⌜ Listed 16 x × (s .misses ≤ 4095) × ((n + 16) * 3 ≤ length (now words)) × (rising (take n (tableOf (now words))) ≡ true) ⌝ }
+    ensures { λ r. ⌜ Added (map (λ e. missedOf x s (without (s .mask) e) (part .0)) (held (s .mask))) n r (tableOf (now (words .entry))) (tableOf (now (words .exit))) ⌝ }
+{
+    let mut m = n;
+    let mut at: usize = 0;
+    while at < 16 {
+        m = lose_one(words, m, s, x, part, at);
+        at += 1;
+    }
+    m
+}
+
+// `s` does not hold the block: each way has an equal part of its units, and what is left over goes to the block alone.
+pub(crate) fn miss(words: &mut [u64], n: usize, s: State, x: Place, ways: u64) -> usize
+    requires { ⌜ Listed 16 x × Workable ways s × (ways ≤ 16) × ((n + 17) * 3 ≤ length (now words)) × (rising (take n (tableOf (now words))) ≡ true) ⌝ }
+    ensures { λ r. ⌜ Added (missOf ways x s) n r (tableOf (now (words .entry))) (tableOf (now (words .exit))) ⌝ }
+{
+    let u = s.units;
+    let share = u.split(ways);
+    let part = share.part;
+    let rest = share.rest;
+    let lost = lose_each(words, n, s, x, part);
+    let others = Units((ways - size_of(s.mask)) * part.0);
+    let kept = add(words, lost, missed(s, x, s.mask, others));
+    add(words, kept, missed(s, x, 0, rest))
+}
+
+// The states that follow `s`: a hit leaves it as it is, and an untracked block is never a hit.
+pub(crate) fn follow(words: &mut [u64], n: usize, s: State, x: Place, ways: u64) -> usize
+    requires { ⌜ Listed 16 x × Workable ways s × (ways ≤ 16) × ((n + 17) * 3 ≤ length (now words)) × (rising (take n (tableOf (now words))) ≡ true) ⌝ }
+    ensures { λ r. ⌜ Added (successors ways x s) n r (tableOf (now (words .entry))) (tableOf (now (words .exit))) ⌝ }
+{
+    match x {
+        Place::At(i) => {
+            if has_place(s.mask, i) {
+                return add(words, n, s);
+            }
+            miss(words, n, s, x, ways)
+        }
+        Place::Untracked => miss(words, n, s, x, ways),
+    }
+}
+
+// What of `s` is set aside.
+pub(crate) fn left_over(s: State, x: Place, ways: u64) -> Units
+    requires { ⌜ Listed 16 x ⌝ }
+    ensures { λ r. ⌜ r .0 ≡ leftOver ways x s ⌝ }
+{
+    let u = s.units;
+    match x {
+        Place::At(i) => {
+            if has_place(s.mask, i) {
+                return Units(0);
+            }
+            u.split(ways).rest
+        }
+        Place::Untracked => u.split(ways).rest,
+    }
+}
+
+// The states that follow the `m` states at place `from`, added in the scratch, which is empty at first.
+pub(crate) fn gather(
+    work: &mut [u64],
+    from: usize,
+    m: usize,
+    x: Place,
+    ways: u64,
+    aside: Units,
+) -> Tally
+    requires { ⌜ Listed 16 x × (ways ≤ 16) × (m ≤ 64) × (from + m ≤ 4096) × (15552 ≤ length (now work)) × (aside .0 ≤ whole) × Every (Workable ways) (take m (drop from (tableOf (now work)))) ⌝ }
+    ensures { λ r. ⌜ InScratch (access ways x (take m (drop from (tableOf (now (work .entry)))))) (r .states) (tableOf (now (work .entry))) (tableOf (now (work .exit))) ⌝ }
+    ensures { λ r. ⌜ r .aside .0 ≡ more (aside .0) (accessAside ways x (take m (drop from (tableOf (now (work .entry)))))) ⌝ }
+{
+    let mut n: usize = 0;
+    let mut count = aside;
+    let mut i: usize = 0;
+    while i < m {
+        let s = load(work, from + i);
+        n = follow(&mut work[12288..], n, s, x, ways);
+        count = count.add(left_over(s, x, ways));
+        i += 1;
+    }
+    Tally {
+        states: n,
+        aside: count,
+    }
+}

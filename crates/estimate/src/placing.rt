@@ -1,0 +1,119 @@
+// States put into an ordered table, each where it belongs.
+use crate::words::load;
+use crate::words::store;
+use rules::State;
+ghost use mathlib.Core.Path.{_≡_};
+ghost use mathlib.Core.Bool.{true, _&&_};
+ghost use mathlib.Core.List.{[], _∷_, _++_};
+ghost use Prim.Native.Nat.{_+_, _*_, _≤_, suc};
+ghost use lib.Dec.{ltb};
+ghost use lib.ListN.{length, take, drop};
+ghost use Rattle.rules.specs.Table.{order, plus as plusOf, rising, stateAt};
+ghost use Rattle.estimate.specs.Words.{tableOf};
+ghost use Rattle.estimate.specs.Placing.{isAfter, isSame, placeOf, Inserted, Added};
+
+// Whether `s` stands after `t`: by mask, then by misses.
+pub(crate) fn is_after(s: State, t: State) -> bool
+    ensures { λ r. ⌜ r ≡ isAfter (order s t) ⌝ }
+{
+    if t.mask < s.mask {
+        return true;
+    }
+    if s.mask < t.mask {
+        return false;
+    }
+    t.misses < s.misses
+}
+
+// Whether `s` and `t` stand in the same place.
+pub(crate) fn is_same(s: State, t: State) -> bool
+    ensures { λ r. ⌜ r ≡ isSame (order s t) ⌝ }
+{
+    if s.mask == t.mask {
+        return s.misses == t.misses;
+    }
+    false
+}
+
+// `t` with the units of `s`.
+pub(crate) fn plus(t: State, s: State) -> State
+    ensures { λ r. ⌜ r ≡ plusOf t s ⌝ }
+{
+    let u = t.units;
+    let v = s.units;
+    State {
+        mask: t.mask,
+        misses: t.misses,
+        units: u.add(v),
+    }
+}
+
+// How many of the first `n` states stand before `s`: by halves.
+pub(crate) fn seek(words: &[u64], n: usize, s: State) -> usize
+    requires { ⌜ (n * 3 ≤ length (now words)) × (rising (take n (tableOf (now words))) ≡ true) ⌝ }
+    ensures { λ r. ⌜ r ≡ placeOf s (take n (tableOf (now (words .entry)))) ⌝ }
+{
+    let mut low: usize = 0;
+    let mut high = n;
+    while low < high {
+        let middle = low + (high - low) / 2;
+        if is_after(s, load(words, middle)) {
+            low = middle + 1;
+        } else {
+            high = middle;
+        }
+    }
+    low
+}
+
+// Whether `s` belongs to the state at place `at` of `n`.
+pub(crate) fn meets(words: &[u64], n: usize, at: usize, s: State) -> bool
+    requires { ⌜ n * 3 ≤ length (now words) ⌝ }
+    ensures { λ r. ⌜ r ≡ (ltb at n && isSame (order s (stateAt (tableOf (now (words .entry))) at))) ⌝ }
+{
+    if at < n {
+        return is_same(s, load(words, at));
+    }
+    false
+}
+
+// Makes room at place `at` among the first `n` states, and puts `s` there.
+pub(crate) fn make_room(words: &mut [u64], n: usize, at: usize, s: State)
+    requires { ⌜ (at ≤ n) × (n * 3 + 3 ≤ length (now words)) ⌝ }
+    ensures { λ _. ⌜ take (suc n) (tableOf (now (words .exit))) ≡ take at (tableOf (now (words .entry))) ++ (s ∷ drop at (take n (tableOf (now (words .entry))))) ⌝ }
+{
+    let mut j = n;
+    while at < j {
+        let t = load(words, j - 1);
+        store(words, j, t);
+        j -= 1;
+    }
+    store(words, at, s);
+}
+
+// Puts `s` into the table of the first `n` states; how many it then has.
+pub(crate) fn put(words: &mut [u64], n: usize, s: State) -> usize
+    requires { ⌜ (n * 3 + 3 ≤ length (now words)) × (rising (take n (tableOf (now words))) ≡ true) ⌝ }
+    ensures { λ r. ⌜ Inserted s n r (tableOf (now (words .entry))) (tableOf (now (words .exit))) ⌝ }
+{
+    let at = seek(words, n, s);
+    if meets(words, n, at, s) {
+        let t = load(words, at);
+        store(words, at, plus(t, s));
+        return n;
+    }
+    make_room(words, n, at, s);
+    n + 1
+}
+
+// The same; a state of 0 units vanishes.
+pub(crate) fn add(words: &mut [u64], n: usize, s: State) -> usize
+    requires { ⌜ (n * 3 + 3 ≤ length (now words)) × (rising (take n (tableOf (now words))) ≡ true) ⌝ }
+    ensures { λ r. ⌜ Added (s ∷ []) n r (tableOf (now (words .entry))) (tableOf (now (words .exit))) ⌝ }
+{
+    let u = s.units;
+    if u.0 == 0 {
+        return n;
+    }
+    put(words, n, s)
+}

@@ -1,0 +1,44 @@
+// Tables in lent words: three words a state, touched by these functions only.
+use rules::State;
+use rules::Units;
+ghost use mathlib.Core.Path.{_≡_};
+ghost use Prim.Native.Nat.{_+_, _*_, _≤_};
+ghost use lib.ListN.{length, set, replicate};
+ghost use Rattle.rules.specs.Table.{stateAt};
+ghost use Rattle.estimate.specs.Words.{tableOf};
+
+// The state at place `at` of the table.
+pub(crate) fn load(words: &[u64], at: usize) -> State
+    requires { ⌜ at * 3 + 3 ≤ length (now words) ⌝ }
+    ensures { λ r. ⌜ r ≡ stateAt (tableOf (now (words .entry))) at ⌝ }
+{
+    let base = at * 3;
+    State {
+        mask: words[base],
+        misses: words[base + 1],
+        units: Units(words[base + 2]),
+    }
+}
+
+// The table with `s` at place `at`.
+pub(crate) fn store(words: &mut [u64], at: usize, s: State)
+    requires { ⌜ at * 3 + 3 ≤ length (now words) ⌝ }
+    ensures { λ _. ⌜ tableOf (now (words .exit)) ≡ set (tableOf (now (words .entry))) at s ⌝ }
+{
+    let base = at * 3;
+    let u = s.units;
+    words[base] = s.mask;
+    words[base + 1] = s.misses;
+    words[base + 2] = u.0;
+}
+
+// Every word is zero.
+pub(crate) fn clear(words: &mut [u64])
+    ensures { λ _. ⌜ now (words .exit) ≡ replicate (length (now (words .entry))) 0 ⌝ }
+{
+    let mut i: usize = 0;
+    while i < words.len() {
+        words[i] = 0;
+        i += 1;
+    }
+}
