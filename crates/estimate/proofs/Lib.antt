@@ -10,3 +10,9 @@ pub mod Scratch
 pub mod Following
 -- When the work says no
 pub mod Reasons
+-- Folding
+pub mod Folding
+-- Joining two tables
+pub mod Pairing
+-- Nodes and their tables
+pub mod Nodes

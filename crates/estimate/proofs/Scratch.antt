@@ -1,29 +1,69 @@
 -- The scratch, lent as a part of the working room: what is lent, what comes back, and what the scratch then holds.
 use mathlib.Core.Path.{_≡_, refl, sym, ap, _∙_}
 use mathlib.Core.Bool.{true}
-use mathlib.Core.List.{List, [], _++_, append-nil}
-use Prim.Native.Nat.{ℕ, _+_, _-_, _≤_, _<_}
+use mathlib.Core.List.{List, [], _∷_, _++_, append-nil}
+use Prim.Native.Nat.{ℕ, zero, suc, _+_, _-_, _*_, _≤_, _<_}
 use native.Mathlib.Omega.{arith}
-use lib.ListN.{length, take, drop, length-drop, drop-of-length-le}
-use lib.Seq.{take-all, take-at, drop-at, getD-take, getD-drop, length-take-le}
+use lib.ListN.{length, take, drop, length-append, length-drop, drop-of-length-le}
+use lib.Seq.{take-all, take-at, take-take, drop-at, getD-take, getD-drop, length-take-le}
 use Rattle.rules.specs.declared.State.{State}
 use Rattle.rules.specs.Table.{state, rising, add, stateAt}
 use Rattle.estimate.specs.Words.{tableOf}
 use Rattle.estimate.specs.Placing.{Added}
 use Rattle.estimate.specs.Rooms.{InScratch}
-use Rattle.estimate.proofs.InWords.{table-take, table-drop, table-append}
+use Rattle.estimate.proofs.InWords.{table-take, table-drop, table-append, fits-table}
 
--- ---- the lent part
+-- ---- stretches of states
 
-pub lent-table : (ws : List ℕ) → tableOf (take (length ws - 12288) (drop 12288 ws)) ≡ drop 4096 (tableOf ws)
-lent-table ws = ap tableOf (take-all (length ws - 12288) (drop 12288 ws) (omega (arith, length-drop 12288 ws))) ∙ table-drop ws 4096
+-- a stretch of states that lies before place base, which is as it was where all before base are
+within : (i m base : ℕ) (T : List State) → i + m ≤ base → take m (drop i (take base T)) ≡ take m (drop i T)
+within zero m base T l = take-take m base T (omega arith)
+within (suc i) m zero T l = absurd (omega arith)
+within (suc i) m (suc base) [] l = refl
+within (suc i) m (suc base) (t ∷ T) l = within i m base T (omega arith)
 
-pub back-table : (ws ys : List ℕ) → 12288 ≤ length ws
-    → tableOf (take 12288 ws ++ (ys ++ drop (length ws - 12288) (drop 12288 ws))) ≡ take 4096 (tableOf ws) ++ tableOf ys
-back-table ws ys h =
-    let none : drop (length ws - 12288) (drop 12288 ws) ≡ [] = drop-of-length-le (drop 12288 ws) {i = length ws - 12288} (omega (arith, length-drop 12288 ws)) in
-    rw (none, append-nil)
-    (table-append (take 12288 ws) ys 4096 (length-take-le 12288 ws h) ∙ ap (λ (T : List State). T ++ tableOf ys) (table-take ws 4096))
+pub stretch-kept : (i m base : ℕ) (T T′ : List State) → i + m ≤ base → take base T′ ≡ take base T → take m (drop i T′) ≡ take m (drop i T)
+stretch-kept i m base T T′ l e =
+    sym (within i m base T′ l) ∙ ap (λ (X : List State). take m (drop i X)) e ∙ within i m base T l
+
+pub stretch-long : (i m : ℕ) (T : List State) → i + m ≤ length T → length (take m (drop i T)) ≡ m
+stretch-long i m T l = length-take-le m (drop i T) (omega (arith, length-drop i T))
+
+-- ---- a part of the words that is lent, from a place on, and the words when it comes back
+
+abbrev pub partFrom : ℕ → List ℕ → List ℕ
+partFrom from ws = take (length ws - from) (drop from ws)
+
+abbrev pub backFrom : ℕ → List ℕ → List ℕ → List ℕ
+backFrom from ws ys = take from ws ++ (ys ++ drop (length ws - from) (drop from ws))
+
+module _ (ws : List ℕ) (base : ℕ) where
+  part-all : partFrom (base * 3) ws ≡ drop (base * 3) ws
+  part-all = take-all (length ws - base * 3) (drop (base * 3) ws) (omega (arith, length-drop (base * 3) ws))
+
+  pub part-table : tableOf (partFrom (base * 3) ws) ≡ drop base (tableOf ws)
+  part-table = ap tableOf part-all ∙ table-drop ws base
+
+  pub part-long : length (partFrom (base * 3) ws) ≡ length ws - base * 3
+  part-long = ap length part-all ∙ length-drop (base * 3) ws
+
+  module _ (ys : List ℕ) (l : base * 3 ≤ length ws) where
+    back-all : backFrom (base * 3) ws ys ≡ take (base * 3) ws ++ ys
+    back-all = rw (drop-of-length-le (drop (base * 3) ws) {i = length ws - base * 3} (omega (arith, length-drop (base * 3) ws)), append-nil)
+
+    pub back-table : tableOf (backFrom (base * 3) ws ys) ≡ take base (tableOf ws) ++ tableOf ys
+    back-table =
+        ap tableOf back-all ∙ table-append (take (base * 3) ws) ys base (length-take-le (base * 3) ws l) ∙ ap (_++ tableOf ys) (table-take ws base)
+
+    pub back-long : length ys ≡ length (partFrom (base * 3) ws) → length (backFrom (base * 3) ws ys) ≡ length ws
+    back-long e =
+        ap length back-all ∙ length-append (take (base * 3) ws) ys ∙ omega (arith, e ∙ part-long, length-take-le (base * 3) ws l)
+
+    pub back-slots : take base (tableOf (backFrom (base * 3) ws ys)) ≡ take base (tableOf ws)
+    back-slots = ap (take base) back-table ∙ take-at (take base (tableOf ws)) (tableOf ys) base (length-take-le base (tableOf ws) (fits-table ws base l))
+
+    pub back-scratch : drop base (tableOf (backFrom (base * 3) ws ys)) ≡ tableOf ys
+    back-scratch = ap (drop base) back-table ∙ drop-at (take base (tableOf ws)) (tableOf ys) base (length-take-le base (tableOf ws) (fits-table ws base l))
 
 -- ---- what the scratch holds
 
@@ -56,6 +96,3 @@ module _ (X : List State) (n : ℕ) (T₀ T : List State) (g : InScratch X n T�
       e ∙ sym (getD-take 4096 T (from + i) (state 0 0 0) (omega arith)) ∙ ap (λ (U : List State). stateAt U (from + i)) (g .slots)
       ∙ getD-take 4096 T₀ (from + i) (state 0 0 0) (omega arith)
       ∙ sym (getD-take m (drop from T₀) i (state 0 0 0) l ∙ getD-drop from T₀ i (state 0 0 0))
-
-pub part-length : (T : List State) (from m : ℕ) → from + m ≤ length T → length (take m (drop from T)) ≡ m
-part-length T from m h = length-take-le m (drop from T) (omega (arith, length-drop from T))

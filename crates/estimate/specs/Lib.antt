@@ -8,3 +8,7 @@ pub mod Rooms
 pub mod Following
 -- The edges of a flat list
 pub mod Edges
+-- Joining two tables
+pub mod Pairing
+-- Working a table, a node, a graph
+pub mod Working

@@ -2,6 +2,9 @@
 mod access;
 mod checks;
 mod contents;
+mod fold;
+mod join;
 mod placing;
+mod slots;
 mod states;
 mod words;

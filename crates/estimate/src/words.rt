@@ -2,8 +2,10 @@
 use rules::State;
 use rules::Units;
 ghost use mathlib.Core.Path.{_≡_};
+ghost use mathlib.Core.Logic.{_⊎_};
 ghost use Prim.Native.Nat.{_+_, _*_, _≤_};
-ghost use lib.ListN.{length, set, replicate};
+ghost use lib.ListN.{length, set, drop, replicate};
+ghost use lib.Seq.{paste};
 ghost use Rattle.rules.specs.Table.{stateAt};
 ghost use Rattle.estimate.specs.Words.{tableOf};
 
@@ -39,6 +41,19 @@ pub(crate) fn clear(words: &mut [u64])
     let mut i: usize = 0;
     while i < words.len() {
         words[i] = 0;
+        i += 1;
+    }
+}
+
+// The `n` states at place `from` stand at place `to` too; the two stretches do not meet.
+pub(crate) fn copy(words: &mut [u64], from: usize, to: usize, n: usize)
+    requires { ⌜ ((from + n) * 3 ≤ length (now words)) × ((to + n) * 3 ≤ length (now words)) × ((to + n ≤ from) ⊎ (from + n ≤ to)) ⌝ }
+    ensures { λ _. ⌜ tableOf (now (words .exit)) ≡ paste (tableOf (now (words .entry))) to (drop from (tableOf (now (words .entry)))) n ⌝ }
+{
+    let mut i: usize = 0;
+    while i < n {
+        let s = load(words, from + i);
+        store(words, to + i, s);
         i += 1;
     }
 }

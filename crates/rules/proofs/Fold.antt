@@ -17,7 +17,7 @@ use Rattle.rules.specs.Table.{State, state, unitsOf, total, stateAt, Wor
 use Rattle.rules.specs.Units.{whole, more}
 use Rattle.rules.specs.Fold.{fewer, closer, choice, meet, changed, foldAt, fold, foldsOf, folded}
 use Rattle.rules.specs.Shape.{Every, Loose, Shaped}
-use Rattle.rules.proofs.Splitting.{more-adds}
+use Rattle.rules.proofs.Splitting.{more-adds, more-most}
 use Rattle.rules.proofs.Lists.{every-remove, every-at, every-weaker, length-remove, best-lt}
 use Rattle.rules.proofs.Ordered.{in-order-remove}
 use Rattle.rules.proofs.Contents.{size-zero, size-sub, sub-shared-left, shared-lt}
@@ -123,6 +123,10 @@ pub folded-total : (K : ℕ) (w : Work) → total (w .table) ≤ whole → total
 folded-total K w h =
     folded-keeps (λ v. total (v .table) ≡ total (w .table)) (λ p v e. fold-total p v (omega arith) ∙ e) K w refl
 
+-- the count stays one that has not passed WHOLE
+pub folded-aside : (K : ℕ) (w : Work) → w .aside ≤ whole → folded K w .aside ≤ whole
+folded-aside K w h = folded-keeps (λ v. v .aside ≤ whole) (λ p v l. rw (fold-aside p (v .table) (v .aside)) (more-most _ _)) K w h
+
 pub rising-folded : (K : ℕ) (w : Work) → Rising (w .table) → Rising (folded K w .table)
 rising-folded K w h = folded-keeps (λ v. Rising (v .table)) rising-fold K w h
 
@@ -131,7 +135,7 @@ shaped-folded N k M K w h = folded-keeps (λ v. Every (Shaped N k M) (v .table))
 
 -- ---- to K states
 
-fold-shorter : (w : Work) → 1 < length (w .table) → length (fold w .table) < length (w .table)
+pub fold-shorter : (w : Work) → 1 < length (w .table) → length (fold w .table) < length (w .table)
 unfolding fold foldAt choice
 fold-shorter w l =
     omega (

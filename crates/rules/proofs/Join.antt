@@ -8,7 +8,7 @@ use Prim.Native.Nat.{ℕ, zero, suc, _+_, _*_, _≤_, _<_, min}
 use native.Mathlib.Nat.{le-refl, min-le-left, min-le-right, zero-add}
 use native.Mathlib.Omega.{arith, min-cases}
 use lib.Dec.{eqb}
-use lib.ListN.{length}
+use lib.ListN.{length, length-map}
 use borrow.Author.Tests.{eqb-true, eq-eqb, ne-eqb}
 use Rattle.basics.specs.Sums.{sumOver}
 use Rattle.basics.proofs.Sums.{sum-map, sumTo, sum-eq, sum-add, sum-const, sum-list, sumOn, on-none, on-point}
@@ -17,7 +17,7 @@ use Rattle.rules.specs.Table.{State, state, unitsOf, total, stateAt}
 use Rattle.rules.specs.Join.{Match, matched, paired, less, leftAfter, placeAfter, walk, fromFront, join}
 use Rattle.rules.specs.Shape.{Every, Shaped}
 use Rattle.rules.proofs.Lists.{every-weaker}
-use Rattle.rules.proofs.Table.{Rising, rising-add, every-add, worthOf, worth, worth-add, total-add, one, worth-total}
+use Rattle.rules.proofs.Table.{Rising, rising-add, length-add-all, every-add, worthOf, worth, worth-add, total-add, one, worth-total}
 use Rattle.rules.proofs.Step.{shaped-plus}
 use Rattle.rules.proofs.Fold.{shaped-meet, loose-at}
 
@@ -177,7 +177,7 @@ total-after u s S l = go (eqb (unitsOf s) u) refl
     go false e = omega arith
 
 -- each step uses up a state of one of the two
-length-after : (s t : State) (S T : List State)
+pub length-after : (s t : State) (S T : List State)
     → length (leftAfter (min (unitsOf s) (unitsOf t)) s S) + length (leftAfter (min (unitsOf s) (unitsOf t)) t T) ≤ length S + suc (length T)
 length-after s t S T =
     min-cases (unitsOf s) (unitsOf t) _
@@ -242,7 +242,7 @@ pub shaped-join : (N k M : ℕ) (S T : List State) → Every (Shaped N k M) S �
 unfolding join
 shaped-join N k M S T a b = shaped-paired N k M (fromFront S T) S T a b
 
--- before adding there are at most as many pairs as states
+-- there are at most as many pairs as states
 length-walk : (n i j : ℕ) (S T : List State) → length (walk n i j S T) ≤ n
 unfolding walk
 length-walk zero i j S T = omega arith
@@ -252,6 +252,12 @@ length-walk (suc n) i j (s ∷ S) (t ∷ T) =
     let u = min (unitsOf s) (unitsOf t) in
     omega (arith, length-walk n (placeAfter u s i) (placeAfter u t j) (leftAfter u s S) (leftAfter u t T))
 
-pub length-front : (S T : List State) → length (fromFront S T) ≤ length S + length T
-unfolding fromFront
-length-front S T = length-walk (length S + length T) 0 0 S T
+pub length-join : (S T : List State) → length (join S T) ≤ length S + length T
+unfolding join paired fromFront
+length-join S T =
+    omega (
+      arith,
+      length-add-all (map (matched S T) (walk (length S + length T) 0 0 S T)) [],
+      length-map (walk (length S + length T) 0 0 S T) (matched S T),
+      length-walk (length S + length T) 0 0 S T,
+    )

@@ -16,11 +16,12 @@ use Rattle.rules.specs.Run.{advance, run}
 use Rattle.rules.specs.Join.{join}
 use Rattle.rules.specs.Shape.{Every, Listed, Shaped, Table}
 use Rattle.rules.proofs.Lists.{every-weaker}
+use Rattle.rules.proofs.Splitting.{more-most}
 use Rattle.rules.proofs.Contents.{size-zero}
 use Rattle.rules.proofs.Lookup.{find-at}
-use Rattle.rules.proofs.Table.{Rising, rising-is, rising-add}
+use Rattle.rules.proofs.Table.{Rising, rising-is, rising-add, length-add}
 use Rattle.rules.proofs.Step.{Fits, access-shaped, access-total, length-access}
-use Rattle.rules.proofs.Fold.{rising-folded, shaped-folded, folded-total, length-folded}
+use Rattle.rules.proofs.Fold.{folded-aside, rising-folded, shaped-folded, folded-total, length-folded}
 use Rattle.rules.proofs.Join.{rising-join, shaped-join, join-total}
 
 pub fits-shaped : (N k M : ℕ) (T : List State) → Every (Shaped N k M) T → Fits N T
@@ -61,9 +62,13 @@ module _ (N k K : ℕ) (some : 0 < N) (room : 0 < K) where
         full = folded-total K w (omega arith) ∙ e;
       }
 
-  rising-access : (x : Place) (T : List State) → Rising (access N x T)
+  pub rising-access : (x : Place) (T : List State) → Rising (access N x T)
   unfolding access
   rising-access x T = rising-add _ [] tt
+
+  pub advance-aside : (x : Place) (w : Work) → advance N K x w .aside ≤ whole
+  unfolding advance
+  advance-aside x w = folded-aside K _ (more-most _ _)
 
   pub table-advance : (M : ℕ) (x : Place) (w : Work) → Listed k x → Table N k K M (w .table) → Table N k K (suc M) (advance N K x w .table)
   unfolding advance
@@ -76,10 +81,14 @@ module _ (N k K : ℕ) (some : 0 < N) (room : 0 < K) where
   table-join M S T a s t =
       table-folded M _ (rising-join S T) (shaped-join N k M S T (s .shaped) (t .shaped)) (join-total S T (s .full ∙ sym (t .full)) (omega (arith, s .full)) ∙ s .full)
 
--- an access lists at most 17 × K states before adding
+-- an access lists at most 17 × K states before adding, and so gives no more
 pub access-room : (N k K M : ℕ) (x : Place) (T : List State) → N ≤ 16 → Table N k K M T → length (listed (flatMap (successors N x) T)) ≤ 17 * K
 access-room N k K M x T few t =
     omega (arith, length-access N x T (table-fits N k K M T t), mul-le-mul (t .short) (suc-le-suc few))
+
+pub access-length : (N k K M : ℕ) (x : Place) (T : List State) → N ≤ 16 → Table N k K M T → length (access N x T) ≤ 17 * K
+unfolding access
+access-length N k K M x T few t = omega (arith, length-add (flatMap (successors N x) T) [], access-room N k K M x T few t)
 
 -- a block that is looked up stands at one of the places, or at none
 pub find-listed : (ts : List ℕ) (b : ℕ) → Listed (length ts) (find ts b)

@@ -1,14 +1,14 @@
 -- `gather` takes the states one by one. The invariant of its loop: the scratch holds what follows the states passed, added, and the count has
 -- what was left over of them.
-use mathlib.Core.Path.{_≡_, refl, _∙_}
-use Prim.Native.Nat.{_-_, _*_, _≤_}
+use mathlib.Core.Path.{_≡_, refl, sym, _∙_}
+use Prim.Native.Nat.{ℕ, _+_, _-_, _*_, _≤_, _<_}
 use native.Mathlib.Omega.{arith}
 use denote.Ref.{now}
 use lib.ListN.{length, take, drop, length-append, length-take, length-drop}
 use Rattle.estimate.specs.Words.{tableOf}
 use Rattle.estimate.specs.Rooms.{InScratch}
 use Rattle.estimate.proofs.InWords.{fits-table}
-use Rattle.estimate.proofs.Scratch.{lent-table, back-table, scratch-empty, scratch-added, scratch-rising, slot-reads, part-length}
+use Rattle.estimate.proofs.Scratch.{part-table, back-table, scratch-empty, scratch-added, scratch-rising, slot-reads, stretch-long}
 use Rattle.rules.proofs.Splitting.{units-added}
 use Rattle.estimate.proofs.Following.{gathered, gathered-none, gathered-rising, gathered-next, gathered-room, gathered-all, asideTo, aside-start, aside-next, aside-all, workable-at}
 use borrow.Author.Needs.{needs}
@@ -40,7 +40,7 @@ follow-requires c κs = let b = c .before .before .before .before in
       rw read (workable-at (a .ways) S (p .6) (l .i)),
       p .1,
       simp (length-take, length-drop) (omega arith),
-      scratch-rising _ _ _ _ (l .inv .2) (gathered-rising (a .ways) (a .x) S (l .i)) _ (lent-table (l .work)),
+      scratch-rising _ _ _ _ (l .inv .2) (gathered-rising (a .ways) (a .x) S (l .i)) _ (part-table (l .work) 4096),
     )
 
 loop-again : tie.Need-loop-again Inv-loop μ-loop
@@ -49,12 +49,12 @@ loop-again c = let b = c .before .before .before .before .before .before .before
     let p = b .before .before .pre in
     let a = b .before .before .args in
     let S = take (a .m) (drop (a .from) (tableOf (now (a .work)))) in
-    let long = part-length (tableOf (now (a .work))) (a .from) (a .m) (omega (arith, fits-table (now (a .work)) 4096 (omega arith))) in
+    let long = stretch-long (a .from) (a .m) (tableOf (now (a .work))) (omega (arith, fits-table (now (a .work)) 4096 (omega arith))) in
     let read = slot-reads _ _ _ _ (l .inv .2) (a .from) (a .m) (l .i) _ (omega arith) (p .3) (c .before .before .before .before .before .before .load .ensures) in (
       search needs,
       simp (length-append, length-take, length-drop) (omega (arith, simp (length-take, length-drop) at (c .before .before .before .before .follow .kept .0))),
       rw (← gathered-next (a .ways) (a .x) S (l .i) (c .before .before .before .before .before .before .load .result) (omega arith) read)
-          (scratch-added _ _ _ _ (l .inv .2) _ _ _ _ _ (fits-table (l .work) 4096 (omega arith)) (lent-table (l .work)) (c .before .before .before .before .follow .ensures) (back-table (l .work) _ (omega arith))),
+          (scratch-added _ _ _ _ (l .inv .2) _ _ _ _ _ (fits-table (l .work) 4096 (omega arith)) (part-table (l .work) 4096) (c .before .before .before .before .follow .ensures) (back-table (l .work) 4096 _ (omega arith))),
       aside-next (a .ways) (a .x) S _ (l .i) _ _ _ _ (omega arith) read (l .inv .3) (c .before .left-over .ensures) (units-added _ _ _ (c .add .ensures)),
     )
 

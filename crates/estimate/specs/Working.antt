@@ -1,0 +1,41 @@
+-- What is asked of the working room before a table in it is worked, and what a graph call is handed.
+use mathlib.Core.Path.{_≡_}
+use mathlib.Core.List.{List}
+use Prim.Native.Nat.{ℕ, _+_, _≤_}
+use lib.ListN.{length, take, drop}
+use Rattle.rules.specs.Units.{whole}
+use Rattle.rules.specs.Table.{Work}
+use Rattle.rules.specs.Shape.{Table}
+use Rattle.rules.specs.Input.{Input}
+use Rattle.estimate.specs.Words.{tableOf}
+
+-- the table of n states at place p, with the set-aside count a
+abbrev pub workAt : ℕ → ℕ → ℕ → List ℕ → Work
+workAt p n a ws = record { table = take n (drop p (tableOf ws)); aside = a }
+
+-- N ways, k tracked blocks and at most K states are in their ranges, there is room, and the table at place p is one, of at most M misses
+pub record Ready (N k K M p n a : ℕ) (ws : List ℕ) : Type 0 where
+  pub some-ways : 1 ≤ N
+  pub few-ways : N ≤ 16
+  pub few-tracked : k ≤ 16
+  pub some-states : 1 ≤ K
+  pub few-states : K ≤ 64
+  pub room : 15552 ≤ length ws
+  pub slot : p + 64 ≤ 4096
+  pub count : n ≤ 64
+  pub aside : a ≤ whole
+  pub table : Table N k K M (workAt p n a ws .table)
+
+-- what comes in, with just the room that is needed
+abbrev pub inputOf : ℕ → ℕ → List ℕ → List ℕ → List ℕ → List ℕ → Input
+inputOf N K ts ns bs es =
+    record {
+      ways = N;
+      limit = K;
+      tracked = ts;
+      lengths = ns;
+      accesses = bs;
+      edges = es;
+      resultRoom = K;
+      workingRoom = 5184;
+    }

@@ -1,0 +1,96 @@
+// Joining two tables: both from the front, as many units at a time as the smaller remaining amount allows.
+use crate::placing::add;
+use crate::states::meet;
+use crate::words::load;
+use rules::State;
+use rules::Units;
+ghost use mathlib.Core.Path.{_≡_};
+ghost use Prim.Native.Nat.{_+_, _*_, _≤_, _<_, min};
+ghost use lib.ListN.{length, take, drop};
+ghost use Rattle.rules.specs.Join.{join};
+ghost use Rattle.rules.specs.Table.{unitsOf};
+ghost use Rattle.estimate.specs.Words.{tableOf};
+ghost use Rattle.estimate.specs.Rooms.{InScratch};
+ghost use Rattle.estimate.specs.Pairing.{frontAt, frontAfter};
+
+// What is first of a table that is walked: its place, and the state there with the units that are left of it.
+pub(crate) struct Front {
+    pub at: usize,
+    pub state: State,
+}
+
+pub(crate) fn smaller(a: Units, b: Units) -> Units
+    ensures { λ r. ⌜ r .0 ≡ min (a .0) (b .0) ⌝ }
+{
+    if b.0 < a.0 {
+        return b;
+    }
+    a
+}
+
+// What is first from place `at` on, of the `m` states at place `from`; past them, a state of 0 units.
+pub(crate) fn front_at(words: &[u64], from: usize, m: usize, at: usize) -> Front
+    requires { ⌜ (from + m) * 3 ≤ length (now words) ⌝ }
+    ensures { λ r. ⌜ r ≡ frontAt (take m (drop from (tableOf (now (words .entry))))) at ⌝ }
+{
+    if at < m {
+        return Front {
+            at,
+            state: load(words, from + at),
+        };
+    }
+    Front {
+        at,
+        state: State {
+            mask: 0,
+            misses: 0,
+            units: Units(0),
+        },
+    }
+}
+
+// What is first when `used` units of the first state are used.
+pub(crate) fn after(words: &[u64], from: usize, m: usize, front: Front, used: Units) -> Front
+    requires { ⌜ ((from + m) * 3 ≤ length (now words)) × (front .at < m) × (used .0 ≤ unitsOf (front .state)) ⌝ }
+    ensures { λ r. ⌜ r ≡ frontAfter (take m (drop from (tableOf (now (words .entry))))) (used .0) front ⌝ }
+{
+    let s = front.state;
+    let u = s.units;
+    let at = front.at;
+    if u.0 == used.0 {
+        return front_at(words, from, m, at + 1);
+    }
+    Front {
+        at,
+        state: State {
+            mask: s.mask,
+            misses: s.misses,
+            units: Units(u.0 - used.0),
+        },
+    }
+}
+
+// The pairs of the `m` states at place `left` and the `k` states at place `right`, into an empty table at place 4,096; how many
+// states it then has.
+pub(crate) fn pair_up(work: &mut [u64], left: usize, m: usize, right: usize, k: usize) -> usize
+    requires { ⌜ (m ≤ 64) × (k ≤ 64) × (left + m ≤ 4096) × (right + k ≤ 4096) × (15552 ≤ length (now work)) ⌝ }
+    ensures { λ r. ⌜ InScratch (join (take m (drop left (tableOf (now (work .entry))))) (take k (drop right (tableOf (now (work .entry)))))) r (tableOf (now (work .entry))) (tableOf (now (work .exit))) ⌝ }
+{
+    let mut n: usize = 0;
+    let mut a = front_at(work, left, m, 0);
+    let mut b = front_at(work, right, k, 0);
+    loop {
+        if m <= a.at {
+            return n;
+        }
+        if k <= b.at {
+            return n;
+        }
+        let s = a.state;
+        let t = b.state;
+        let used = smaller(s.units, t.units);
+        n = add(&mut work[12288..], n, meet(s, t, used));
+        a = after(work, left, m, a, used);
+        b = after(work, right, k, b, used);
+    }
+}
