@@ -21,7 +21,7 @@ use Rattle.rules.specs.Table.{state, unitsOf, order, stateAt, rising, add, Work
 use Rattle.rules.specs.Fold.{fewer, sharing, apart, closer, choice, meet, changed, foldAt, fold, foldsOf, folded}
 use Rattle.rules.proofs.Lists.{length-remove, best-lt}
 use Rattle.rules.proofs.Ordered.{in-order-remove}
-use Rattle.rules.proofs.Table.{rising-is, rising-so, length-add-all}
+use Rattle.rules.proofs.Table.{rising-is, rising-so}
 use Rattle.rules.proofs.Fold.{firstOf, secondOf, othersOf, meetOf, rising-fold, fold-shorter}
 use Rattle.estimate.specs.Placing.{Added}
 use Rattle.estimate.specs.Rooms.{Stands}

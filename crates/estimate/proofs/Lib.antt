@@ -16,3 +16,5 @@ pub mod Folding
 pub mod Pairing
 -- Nodes and their tables
 pub mod Nodes
+-- Tables in their places
+pub mod Settling

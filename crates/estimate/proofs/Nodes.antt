@@ -1,15 +1,13 @@
 -- The slots: a table with no states behind it is found again, whatever was there before.
 use mathlib.Core.Path.{_≡_, refl, sym, ap, ap₂, _∙_}
 use mathlib.Core.Logic.{_⊎_, inl, inr}
-use mathlib.Core.Bool.{Bool, true, false, cond}
 use mathlib.Core.List.{List, [], _∷_, _++_, append-assoc}
 use Prim.Native.Nat.{ℕ, zero, suc, _+_, _-_, _*_, _≤_, _<_}
 use native.Mathlib.Nat.{zero-add, suc-add, not-suc-le-zero, le-of-suc-le-suc, eq-or-lt-of-le}
 use native.Mathlib.Numerals.{add-one}
 use native.Mathlib.Omega.{arith}
-use lib.Dec.{eqb}
-use lib.ListN.{length, getD, set, take, drop, replicate, length-append, length-drop, length-take, length-replicate, getD-replicate, replicate-append-replicate, List·getD-append, drop-of-length-le}
-use lib.Seq.{paste, paste-zero, paste-suc, length-paste-head, getD-take, getD-drop, getD-at, getD-append-add, length-take-le, take-at, take-take, take-nil, take-append-le, drop-at, drop-append-le, drop-cons}
+use lib.ListN.{length, getD, set, take, drop, replicate, length-append, length-drop, length-replicate, getD-replicate, replicate-append-replicate, List·getD-append, drop-of-length-le}
+use lib.Seq.{paste, paste-suc, length-paste-head, getD-take, getD-drop, getD-at, getD-append-add, length-take-le, take-at, take-take, take-nil, take-append-le, drop-at, drop-append-le, drop-cons}
 use borrow.Author.Tests.{eq-eqb, ne-eqb}
 use Rattle.rules.specs.declared.State.{State}
 use Rattle.rules.specs.Table.{state, unitsOf, stateAt}

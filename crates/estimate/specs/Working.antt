@@ -1,5 +1,4 @@
 -- What is asked of the working room before a table in it is worked, and what a graph call is handed.
-use mathlib.Core.Path.{_≡_}
 use mathlib.Core.List.{List}
 use Prim.Native.Nat.{ℕ, _+_, _≤_}
 use lib.ListN.{length, take, drop}

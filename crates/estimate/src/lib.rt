@@ -5,6 +5,7 @@ mod contents;
 mod fold;
 mod join;
 mod placing;
+mod run;
 mod slots;
 mod states;
 mod words;

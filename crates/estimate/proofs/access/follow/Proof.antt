@@ -1,6 +1,5 @@
 -- `follow`: a tracked block is looked for in the mask, and held is a hit; an untracked one is never held.
 use mathlib.Core.Path.{sym, _∙_}
-use native.Mathlib.Omega.{arith}
 use Rattle.estimate.proofs.Following.{hit-put, miss-goes}
 use borrow.Author.Needs.{needs}
 use Rattle.estimate.proofs.access.follow.Statement.{statement}

@@ -1,7 +1,7 @@
 -- `gather` takes the states one by one. The invariant of its loop: the scratch holds what follows the states passed, added, and the count has
 -- what was left over of them.
-use mathlib.Core.Path.{_≡_, refl, sym, _∙_}
-use Prim.Native.Nat.{ℕ, _+_, _-_, _*_, _≤_, _<_}
+use mathlib.Core.Path.{_≡_, refl, _∙_}
+use Prim.Native.Nat.{_-_, _*_, _≤_}
 use native.Mathlib.Omega.{arith}
 use denote.Ref.{now}
 use lib.ListN.{length, take, drop, length-append, length-take, length-drop}

@@ -1,6 +1,6 @@
 -- `lose_each` goes through the 16 places. The invariant of its loop: the losses at the places passed are added.
 use mathlib.Core.Path.{_≡_, refl}
-use Prim.Native.Nat.{_+_, _-_, _≤_}
+use Prim.Native.Nat.{_-_, _≤_}
 use native.Mathlib.Omega.{arith}
 use denote.Ref.{now}
 use lib.ListN.{length}

@@ -1,5 +1,5 @@
 -- `lose_one` adds the state without the block, or nothing where the block is not held.
-use mathlib.Core.Path.{_≡_, sym, _∙_}
+use mathlib.Core.Path.{sym, _∙_}
 use native.Mathlib.Omega.{arith}
 use denote.Ref.{now}
 use Rattle.estimate.specs.Words.{tableOf}

@@ -1,6 +1,5 @@
 -- `miss` adds the states with a block lost, the one that loses nothing, and the one of the units left over. There is room for all: where
 -- every way holds a block, the second has no units.
-use Prim.Native.Nat.{_+_, _≤_}
 use native.Mathlib.Omega.{arith}
 use denote.Ref.{now}
 use Rattle.rules.proofs.Splitting.{split-part, split-rest}

@@ -3,7 +3,6 @@ use Prim.Native.Nat.{_%_}
 use native.Mathlib.Omega.{arith}
 use lib.Count.{ones-le}
 use Rattle.estimate.proofs.Masks.{size-ones}
-use borrow.Author.Needs.{needs}
 use Rattle.estimate.proofs.contents.size_of.Statement.{statement}
 use Rattle.estimate.proofs.contents.size_of.Tie as tie
 

@@ -1,5 +1,5 @@
 -- `count` goes through the slot. The invariant of its loop: the first n states have units, so that the rest tells.
-use mathlib.Core.Path.{_≡_, sym, ap, _∙_}
+use mathlib.Core.Path.{sym, ap, _∙_}
 use Prim.Native.Nat.{_+_, _-_, _≤_}
 use native.Mathlib.Omega.{arith}
 use denote.Ref.{now}

@@ -1,0 +1,145 @@
+-- A table in its place: what the folds leave in the scratch is copied there, and each access starts from what the one before it left.
+use mathlib.Core.Path.{_≡_, refl, sym, ap, _∙_}
+use mathlib.Core.Bool.{true}
+use mathlib.Core.List.{List, [], _∷_}
+use Prim.Native.Nat.{ℕ, suc, _+_, _≤_, _<_}
+use native.Mathlib.Omega.{arith}
+use lib.ListN.{length, take, drop, getD, length-drop, drop-of-length-le}
+use lib.Seq.{paste, drop-cons}
+use Rattle.rules.specs.declared.Place.{Place}
+use Rattle.rules.specs.declared.State.{State}
+use Rattle.rules.specs.Units.{whole, more}
+use Rattle.rules.specs.Contents.{find}
+use Rattle.rules.specs.Table.{rising, total, unitsOf, Work}
+use Rattle.rules.specs.Shape.{Every, Listed, Shaped, Table}
+use Rattle.rules.specs.Step.{access, accessAside}
+use Rattle.rules.specs.Fold.{folded}
+use Rattle.rules.specs.Join.{join}
+use Rattle.rules.specs.Run.{advance, run}
+use Rattle.rules.proofs.Table.{rising-is}
+use Rattle.rules.proofs.Join.{rising-join, length-join}
+use Rattle.rules.proofs.Run.{rising-access, access-length, table-advance, table-wider, advance-aside, find-listed}
+use Rattle.estimate.specs.Words.{tableOf}
+use Rattle.estimate.specs.Rooms.{InScratch, Stands, InPlace}
+use Rattle.estimate.specs.Following.{Workable}
+use Rattle.estimate.specs.Working.{workAt, Ready}
+use Rattle.estimate.proofs.InWords.{fits-table}
+use Rattle.estimate.proofs.Scratch.{stretch-kept, stretch-long}
+use Rattle.estimate.proofs.Nodes.{paste-there, paste-take}
+
+-- ---- from the scratch to a place
+
+-- w stands in the scratch of T₂, whose slots are T's; the copy puts it at place `at`
+pub settled : (w : Work) (at m a : ℕ) (T T₂ T₃ : List State) → at + 64 ≤ 4096 → m ≤ 64 → 5184 ≤ length T₂ → Stands w m a (drop 4096 T₂)
+    → take 4096 T₂ ≡ take 4096 T → T₃ ≡ paste T₂ at (drop 4096 T₂) m → InPlace w at m a T T₃
+settled w at m a T T₂ T₃ slot few long s e q =
+    record {
+      stands = record { count = s .count; table = ap (λ (U : List State). take m (drop at U)) q ∙ paste-there T₂ (drop 4096 T₂) at m (omega arith) (omega (arith, length-drop 4096 T₂)) ∙ s .table; aside = s .aside };
+      before = ap (take at) q ∙ paste-take T₂ (drop 4096 T₂) at m at (omega arith) (omega arith) ∙ stretch-kept 0 at 4096 T T₂ (omega arith) e;
+    }
+
+-- w was settled from X in the scratch, and the slots were T's before
+pub settled-from : (K : ℕ) (X X′ : List State) (a a′ : ℕ) (at m b : ℕ) (T T₂ T₃ : List State) → X ≡ X′ → a ≡ a′ → at ≤ 4096 → take 4096 T₂ ≡ take 4096 T
+    → InPlace (folded K (record { table = X; aside = a })) at m b T₂ T₃ → InPlace (folded K (record { table = X′; aside = a′ })) at m b T T₃
+settled-from K X X′ a a′ at m b T T₂ T₃ p q low e g =
+    record { stands = rw (← p, ← q) (g .stands); before = g .before ∙ stretch-kept 0 at 4096 T T₂ (omega arith) e }
+
+-- ---- an access of a table at a place
+
+-- no state has more units than all have together
+unit-most : (T : List State) (n : ℕ) → total T ≤ n → Every (λ s. unitsOf s ≤ n) T
+unfolding total
+unit-most [] n h = tt
+unit-most (s ∷ T) n h = (omega arith, unit-most T n (omega arith))
+
+workables : (N k M : ℕ) (T : List State) → M ≤ 4095 → Every (Shaped N k M) T → Every (λ s. unitsOf s ≤ whole) T → Every (Workable N) T
+workables N k M [] l h u = tt
+workables N k M (s ∷ T) l h u = ((omega (arith, h .0 .0 .few), u .0, h .0 .0 .small), workables N k M T l (h .1) (u .1))
+
+pub workable : (N k K M : ℕ) (T : List State) → M ≤ 4095 → Table N k K M T → Every (Workable N) T
+workable N k K M T l t = workables N k M T l (t .shaped) (unit-most T whole (rw (t .full) (omega arith)))
+
+pub listed-sixteen : (ts : List ℕ) (b : ℕ) (x : Place) → length ts ≤ 16 → x ≡ find ts b → Listed 16 x
+listed-sixteen ts b x few e i p = omega (arith, few, find-listed ts b i (sym e ∙ p))
+
+-- what is gathered can be settled
+pub gathered-fits : (N k K M : ℕ) (x : Place) (T : List State) (r : ℕ) (T₀ T₁ : List State) → 1 ≤ N → N ≤ 16 → 1 ≤ K → K ≤ 64 → Table N k K M T
+    → InScratch (access N x T) r T₀ T₁ → (r ≤ 1088) × (rising (take r (drop 4096 T₁)) ≡ true)
+gathered-fits N k K M x T r T₀ T₁ some few room most t g =
+    (omega (arith, g .count, access-length N k K M x T few t), rw (g .table) (rising-is (access N x T) (rising-access N k K some room x T)))
+
+pub joined-fits : (S T : List State) (r : ℕ) (T₀ T₁ : List State) → length S ≤ 64 → length T ≤ 64
+    → InScratch (join S T) r T₀ T₁ → (r ≤ 1088) × (rising (take r (drop 4096 T₁)) ≡ true)
+joined-fits S T r T₀ T₁ l m g = (omega (arith, g .count, length-join S T), rw (g .table) (rising-is (join S T) (rising-join S T)))
+
+pub advanced : (N K : ℕ) (x y : Place) (w : Work) (at r a m b : ℕ) (T T₁ T₂ : List State) → x ≡ y → at ≤ 4096 → InScratch (access N x (w .table)) r T T₁
+    → a ≡ more (w .aside) (accessAside N x (w .table))
+    → InPlace (folded K (record { table = take r (drop 4096 T₁); aside = a })) at m b T₁ T₂ → InPlace (advance N K y w) at m b T T₂
+unfolding advance
+advanced N K x y w at r a m b T T₁ T₂ p low g q h = rw (← p) (settled-from K _ _ _ _ at m b T T₁ T₂ (g .table) q low (g .slots) h)
+
+-- ---- accesses one after the other
+
+-- as far as access i, from w
+abbrev pub Ran : ℕ → ℕ → List ℕ → List ℕ → ℕ → Work → Work → Type 0
+Ran N K ts bs i v w = run N K ts (drop i bs) v ≡ run N K ts bs w
+
+pub ran-next : (N K : ℕ) (ts bs : List ℕ) (i : ℕ) (v w : Work) (b : ℕ) → i < length bs → b ≡ getD bs i 0 → Ran N K ts bs i v w
+    → Ran N K ts bs (suc i) (advance N K (find ts b) v) w
+unfolding run
+ran-next N K ts bs i v w b l e h = rw e (sym (ap (λ (cs : List ℕ). run N K ts cs v) (drop-cons bs i 0 l))) ∙ h
+
+ran-all : (N K : ℕ) (ts bs : List ℕ) (i : ℕ) (v w : Work) → length bs ≤ i → Ran N K ts bs i v w → v ≡ run N K ts bs w
+unfolding run
+ran-all N K ts bs i v w l h = sym (ap (λ (cs : List ℕ). run N K ts cs v) (drop-of-length-le bs {i = i} l)) ∙ h
+
+-- the work at a place is what stands there
+pub stands-work : (w : Work) (at n a : ℕ) (ws : List ℕ) (T : List State) → InPlace w at n a T (tableOf ws) → workAt at n a ws ≡ w
+stands-work w at n a ws T g = rw (g .stands .table, g .stands .aside) refl
+
+-- a table that can be worked on still can where more misses are allowed, and after an access
+pub ready-wider : (N k K M L at n a : ℕ) (ws : List ℕ) → M ≤ L → Ready N k K M at n a ws → Ready N k K L at n a ws
+ready-wider N k K M L at n a ws l r =
+    record {
+      some-ways = r .some-ways;
+      few-ways = r .few-ways;
+      few-tracked = r .few-tracked;
+      some-states = r .some-states;
+      few-states = r .few-states;
+      room = r .room;
+      slot = r .slot;
+      count = r .count;
+      aside = r .aside;
+      table = table-wider N k K M L (workAt at n a ws .table) l (r .table);
+    }
+
+pub ready-next : (N K L M at n a n′ a′ : ℕ) (ts : List ℕ) (b : ℕ) (ws ws′ : List ℕ) → suc L ≤ M → length ws′ ≡ length ws → Ready N (length ts) K L at n a ws
+    → InPlace (advance N K (find ts b) (workAt at n a ws)) at n′ a′ (tableOf ws) (tableOf ws′) → Ready N (length ts) K M at n′ a′ ws′
+ready-next N K L M at n a n′ a′ ts b ws ws′ l e r g =
+    record {
+      some-ways = r .some-ways;
+      few-ways = r .few-ways;
+      few-tracked = r .few-tracked;
+      some-states = r .some-states;
+      few-states = r .few-states;
+      room = rw e (r .room);
+      slot = r .slot;
+      count = omega (arith, g .stands .count, t .short, r .few-states);
+      aside = rw (g .stands .aside) (advance-aside N (length ts) K (r .some-ways) (r .some-states) (find ts b) (workAt at n a ws));
+      table = rw (g .stands .table) t;
+    }
+  where
+    t : Table N (length ts) K M (advance N K (find ts b) (workAt at n a ws) .table)
+    t =
+        table-wider N (length ts) K (suc L) M _ l
+        (table-advance N (length ts) K (r .some-ways) (r .some-states) L (find ts b) (workAt at n a ws) (find-listed ts b) (r .table))
+
+-- when no access is to come, the table stands where it is to
+pub ran-stands : (N K M at n a i : ℕ) (ts bs ws : List ℕ) (w : Work) (T : List State) → length bs ≤ i → Ready N (length ts) K M at n a ws
+    → take at (tableOf ws) ≡ take at T → Ran N K ts bs i (workAt at n a ws) w → InPlace (run N K ts bs w) at n a T (tableOf ws)
+ran-stands N K M at n a i ts bs ws w T l r e h =
+    rw (← ran-all N K ts bs i (workAt at n a ws) w l h)
+    record {
+      stands = record { count = sym (stretch-long at n (tableOf ws) (omega (arith, r .slot, r .count, fits-table ws 5184 (r .room)))); table = refl; aside = refl };
+      before = e;
+    }

@@ -1,0 +1,86 @@
+// Accesses one after the other, and a table joined: each followed by its folds.
+use crate::access::gather;
+use crate::contents::look_up;
+use crate::fold::fold_down;
+use crate::join::pair_up;
+use crate::states::Tally;
+use crate::words::copy;
+use rules::Units;
+ghost use mathlib.Core.Path.{_≡_};
+ghost use mathlib.Core.Bool.{true};
+ghost use Prim.Native.Nat.{_+_, _-_, _≤_};
+ghost use lib.ListN.{length, take, drop};
+ghost use Rattle.rules.specs.Contents.{find};
+ghost use Rattle.rules.specs.Fold.{folded};
+ghost use Rattle.rules.specs.Join.{join};
+ghost use Rattle.rules.specs.Run.{advance as advanceOf, run as runOver};
+ghost use Rattle.rules.specs.Table.{rising};
+ghost use Rattle.estimate.specs.Words.{tableOf};
+ghost use Rattle.estimate.specs.Rooms.{InPlace};
+ghost use Rattle.estimate.specs.Working.{workAt, Ready};
+
+// The `n` states of the scratch folded to at most `limit`, and put at place `at`.
+pub(crate) fn settle(work: &mut [u64], at: usize, n: usize, aside: Units, limit: usize) -> Tally
+    requires { ⌜ (15552 ≤ length (now work)) × (at + 64 ≤ 4096) × (n ≤ 1088) × (1 ≤ limit) × (limit ≤ 64) × (rising (take n (drop 4096 (tableOf (now work)))) ≡ true) ⌝ }
+    ensures { λ r. ⌜ InPlace (folded limit (record { table = take n (drop 4096 (tableOf (now (work .entry)))); aside = aside .0 })) at (r .states) (r .aside .0) (tableOf (now (work .entry))) (tableOf (now (work .exit))) ⌝ }
+{
+    let folded = fold_down(&mut work[12288..], n, limit, aside);
+    copy(work, 4096, at, folded.states);
+    folded
+}
+
+// An access to `block`, of the table of `tally.states` states at place `at`.
+pub(crate) fn advance(
+    work: &mut [u64],
+    at: usize,
+    tally: Tally,
+    block: u32,
+    tracked: &[u32],
+    ways: u64,
+    limit: usize,
+) -> Tally
+    requires { ⌜ Ready ways (length (now tracked)) limit 4095 at (tally .states) (tally .aside .0) (now work) ⌝ }
+    ensures { λ r. ⌜ InPlace (advanceOf ways limit (find (now (tracked .entry)) block) (workAt at (tally .states) (tally .aside .0) (now (work .entry)))) at (r .states) (r .aside .0) (tableOf (now (work .entry))) (tableOf (now (work .exit))) ⌝ }
+{
+    let x = look_up(tracked, block);
+    let gathered = gather(work, at, tally.states, x, ways, tally.aside);
+    settle(work, at, gathered.states, gathered.aside, limit)
+}
+
+// The accesses of a run one after the other.
+pub(crate) fn run(
+    work: &mut [u64],
+    at: usize,
+    tally: Tally,
+    accesses: &[u32],
+    tracked: &[u32],
+    ways: u64,
+    limit: usize,
+) -> Tally
+    requires { ⌜ (length (now accesses) ≤ 4096) × Ready ways (length (now tracked)) limit (4096 - length (now accesses)) at (tally .states) (tally .aside .0) (now work) ⌝ }
+    ensures { λ r. ⌜ InPlace (runOver ways limit (now (tracked .entry)) (now (accesses .entry)) (workAt at (tally .states) (tally .aside .0) (now (work .entry)))) at (r .states) (r .aside .0) (tableOf (now (work .entry))) (tableOf (now (work .exit))) ⌝ }
+{
+    let mut now = tally;
+    let mut i: usize = 0;
+    while i < accesses.len() {
+        now = advance(work, at, now, accesses[i], tracked, ways, limit);
+        i += 1;
+    }
+    now
+}
+
+// The table of `m` states at place `other` joined to that at place `at`.
+pub(crate) fn join_to(
+    work: &mut [u64],
+    at: usize,
+    tally: Tally,
+    other: usize,
+    m: usize,
+    limit: usize,
+) -> Tally
+    requires { ⌜ (15552 ≤ length (now work)) × (at + 64 ≤ 4096) × (tally .states ≤ 64) × (other + 64 ≤ 4096) × (m ≤ 64) × (1 ≤ limit) × (limit ≤ 64) ⌝ }
+    ensures { λ r. ⌜ InPlace (folded limit (record { table = join (take (tally .states) (drop at (tableOf (now (work .entry))))) (take m (drop other (tableOf (now (work .entry))))); aside = tally .aside .0 })) at (r .states) (r .aside .0) (tableOf (now (work .entry))) (tableOf (now (work .exit))) ⌝ }
+{
+    let n = pair_up(work, at, tally.states, other, m);
+    settle(work, at, n, tally.aside, limit)
+}
