@@ -18,3 +18,5 @@ pub mod Pairing
 pub mod Nodes
 -- Tables in their places
 pub mod Settling
+-- Graphs
+pub mod Graphs

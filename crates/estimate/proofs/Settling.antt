@@ -101,11 +101,7 @@ stands-work w at n a ws T g = rw (g .stands .table, g .stands .aside) refl
 pub ready-wider : (N k K M L at n a : ℕ) (ws : List ℕ) → M ≤ L → Ready N k K M at n a ws → Ready N k K L at n a ws
 ready-wider N k K M L at n a ws l r =
     record {
-      some-ways = r .some-ways;
-      few-ways = r .few-ways;
-      few-tracked = r .few-tracked;
-      some-states = r .some-states;
-      few-states = r .few-states;
+      ranges = r .ranges;
       room = r .room;
       slot = r .slot;
       count = r .count;
@@ -117,22 +113,18 @@ pub ready-next : (N K L M at n a n′ a′ : ℕ) (ts : List ℕ) (b : ℕ) (ws 
     → InPlace (advance N K (find ts b) (workAt at n a ws)) at n′ a′ (tableOf ws) (tableOf ws′) → Ready N (length ts) K M at n′ a′ ws′
 ready-next N K L M at n a n′ a′ ts b ws ws′ l e r g =
     record {
-      some-ways = r .some-ways;
-      few-ways = r .few-ways;
-      few-tracked = r .few-tracked;
-      some-states = r .some-states;
-      few-states = r .few-states;
+      ranges = r .ranges;
       room = rw e (r .room);
       slot = r .slot;
-      count = omega (arith, g .stands .count, t .short, r .few-states);
-      aside = rw (g .stands .aside) (advance-aside N (length ts) K (r .some-ways) (r .some-states) (find ts b) (workAt at n a ws));
+      count = omega (arith, g .stands .count, t .short, r .ranges .few-states);
+      aside = rw (g .stands .aside) (advance-aside N (length ts) K (r .ranges .some-ways) (r .ranges .some-states) (find ts b) (workAt at n a ws));
       table = rw (g .stands .table) t;
     }
   where
     t : Table N (length ts) K M (advance N K (find ts b) (workAt at n a ws) .table)
     t =
         table-wider N (length ts) K (suc L) M _ l
-        (table-advance N (length ts) K (r .some-ways) (r .some-states) L (find ts b) (workAt at n a ws) (find-listed ts b) (r .table))
+        (table-advance N (length ts) K (r .ranges .some-ways) (r .ranges .some-states) L (find ts b) (workAt at n a ws) (find-listed ts b) (r .table))
 
 -- when no access is to come, the table stands where it is to
 pub ran-stands : (N K M at n a i : ℕ) (ts bs ws : List ℕ) (w : Work) (T : List State) → length bs ≤ i → Ready N (length ts) K M at n a ws

@@ -7,6 +7,7 @@ use lib.Dec.{eqb}
 use lib.ListN.{length, take, drop}
 use Rattle.rules.specs.declared.State.{State}
 use Rattle.rules.specs.Table.{unitsOf, Work}
+use Rattle.rules.specs.Graph.{Worked}
 
 -- ---- the scratch
 
@@ -47,3 +48,13 @@ tableIn j T = take (filled (slotOf j T)) (slotOf j T)
 unfoldable pub tablesIn : ℕ → List State → List (List State)
 tablesIn zero T = []
 tablesIn (suc j) T = tablesIn j T ++ (tableIn j T ∷ [])
+
+-- the nodes before node j, with the set-aside count a
+abbrev pub workedIn : ℕ → ℕ → List State → Worked
+workedIn j a T = record { tables = tablesIn j T; aside = a }
+
+-- node j is worked to w: its table is in its slot, and the slots before it are as they were
+pub record NodeDone (w : Work) (j a : ℕ) (T T′ : List State) : Type 0 where
+  pub table : tableIn j T′ ≡ w .table
+  pub aside : a ≡ w .aside
+  pub before : take (j * 64) T′ ≡ take (j * 64) T

@@ -3,6 +3,7 @@ mod access;
 mod checks;
 mod contents;
 mod fold;
+mod graph;
 mod join;
 mod placing;
 mod run;

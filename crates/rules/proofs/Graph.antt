@@ -1,4 +1,4 @@
--- Every node's table is a table: for an accepted input, by induction over the nodes. The finished table is one, of is many misses as
+-- Every node's table is a table: for an accepted input, by induction over the nodes. The finished table is one, of as many misses as
 -- there are accesses at most, so that the questions accept it.
 use mathlib.Core.Path.{_≡_, refl, ap, _∙_, subst}
 use mathlib.Core.Bool.{true}
@@ -9,18 +9,21 @@ use native.Mathlib.Nat.{le-refl, min-le-left, eq-or-lt-of-le, le-of-suc-le-suc, 
 use native.Mathlib.Omega.{arith}
 use lib.Dec.{eqb}
 use lib.ListN.{length, getD, take, drop, length-append, length-take, List·getD-append}
-use lib.Seq.{getD-at, take-suc, take-length}
+use lib.Seq.{getD-at, take-suc, take-length, take-nil}
 use borrow.Author.Tests.{eq-eqb}
 use Rattle.basics.specs.Sums.{sumOver}
 use Rattle.basics.proofs.Bools.{or-left, or-right}
 use Rattle.basics.proofs.Sums.{sum-append}
-use Rattle.rules.specs.Contents.{among}
+use Rattle.rules.specs.Units.{whole}
+use Rattle.rules.specs.Contents.{among, find}
 use Rattle.rules.specs.Input.{Input, nodes, offset, runOf, edgesOf, predecessors}
 use Rattle.rules.specs.Table.{State, begin, Work}
+use Rattle.rules.specs.Run.{run}
 use Rattle.rules.specs.Graph.{Worked, tableAt, joinAll, enter, node, worked, finished}
 use Rattle.rules.specs.Shape.{Table}
 use Rattle.rules.proofs.Refusals.{Checked, predecessor-lower}
-use Rattle.rules.proofs.Run.{table-wider, table-begin, table-join, table-run}
+use Rattle.rules.proofs.Fold.{folded-aside}
+use Rattle.rules.proofs.Run.{advance-aside, table-wider, table-begin, table-join, table-run}
 
 -- ---- the nodes that are worked
 
@@ -33,7 +36,7 @@ unfolding worked
 length-worked i zero = refl
 length-worked i (suc n) = omega (arith, length-append (worked i n .tables) (nodeTable i n ∷ []), length-worked i n)
 
--- it stays is it was made
+-- it stays as it was made
 pub table-stays : (i : Input) (n j : ℕ) → j < n → tableAt (worked i n) j ≡ nodeTable i j
 unfolding worked
 table-stays i zero j l = absurd (not-suc-le-zero l)
@@ -70,6 +73,30 @@ module _ (N k K : ℕ) (some : 0 < N) (room : 0 < K) (M : ℕ) (d : Worked) wher
       let (p, q) = first-and-others (λ j. Table N k K M (tableAt d j)) a is h in
       table-joinAll is _ q p
 
+-- ---- the set-aside count, which stops at WHOLE
+
+module _ (K : ℕ) (d : Worked) where
+  aside-joinAll : (is : List ℕ) (w : Work) → w .aside ≤ whole → joinAll K d is w .aside ≤ whole
+  unfolding joinAll
+  aside-joinAll [] w h = h
+  aside-joinAll (a ∷ is) w h = aside-joinAll is _ (folded-aside K _ h)
+
+  pub aside-enter : (is : List ℕ) → d .aside ≤ whole → enter K d is .aside ≤ whole
+  unfolding enter
+  aside-enter [] h = h
+  aside-enter (a ∷ is) h = aside-joinAll is _ h
+
+aside-run : (N K : ℕ) → 0 < N → 0 < K → (ts bs : List ℕ) (w : Work) → w .aside ≤ whole → run N K ts bs w .aside ≤ whole
+unfolding run
+aside-run N K some room ts [] w h = h
+aside-run N K some room ts (b ∷ bs) w h = aside-run N K some room ts bs _ (advance-aside N 0 K some room (find ts b) w)
+
+pub aside-worked : (i : Input) → 0 < i .ways → 0 < i .limit → (n : ℕ) → worked i n .aside ≤ whole
+unfolding worked node
+aside-worked i some room zero = omega arith
+aside-worked i some room (suc n) =
+    aside-run (i .ways) (i .limit) some room (i .tracked) (runOf i n) _ (aside-enter (i .limit) (worked i n) (predecessors (edgesOf (i .edges)) n) (aside-worked i some room n))
+
 -- ---- every node
 
 -- the run of a node is no longer than its length says
@@ -79,10 +106,17 @@ length-runOf i j =
     rw (length-take (getD (i .lengths) j 0) (drop (offset (i .lengths) j) (i .accesses))) (min-le-left _ _)
 
 -- the next run starts behind this one
-offset-next : (lengths : List ℕ) (j : ℕ) → j < length lengths → offset lengths (suc j) ≡ getD lengths j 0 + offset lengths j
+pub offset-next : (lengths : List ℕ) (j : ℕ) → j < length lengths → offset lengths (suc j) ≡ getD lengths j 0 + offset lengths j
 unfolding offset
 offset-next lengths j l =
     ap (sumOver (λ n. n)) (take-suc lengths j 0 l) ∙ sum-append (λ n. n) (take j lengths) (getD lengths j 0 ∷ []) ∙ omega arith
+
+-- and ends within the access list, if the lengths add up to its length
+pub offset-most : (lengths : List ℕ) (j : ℕ) → offset lengths j ≤ sumOver (λ n. n) lengths
+unfolding offset
+offset-most [] j = rw (take-nil j) (omega arith)
+offset-most (n ∷ lengths) zero = omega arith
+offset-most (n ∷ lengths) (suc j) = omega (arith, offset-most lengths j)
 
 module _ (i : Input) (ok : Checked i) where
   abbrev pub NodeTable : ℕ → ℕ → Type 0
@@ -110,7 +144,7 @@ module _ (i : Input) (ok : Checked i) where
       M = offset (i .lengths) n
 
   -- the misses of the first n nodes are at most the accesses of their runs
-  every-node : (n : ℕ) → n ≤ nodes i → (j : ℕ) → j < n → NodeTable (offset (i .lengths) n) j
+  pub every-node : (n : ℕ) → n ≤ nodes i → (j : ℕ) → j < n → NodeTable (offset (i .lengths) n) j
   every-node zero l j k = absurd (not-suc-le-zero k)
   every-node (suc n) l j k = go (eq-or-lt-of-le (le-of-suc-le-suc k)) (every-node n (omega arith))
     where

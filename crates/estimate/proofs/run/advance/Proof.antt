@@ -11,13 +11,13 @@ use Rattle.estimate.proofs.run.advance.Tie as tie
 gather-requires : tie.Need-gather-requires
 gather-requires c κs = let a = c .before .before .before .before .args in
     let p = c .before .before .before .before .pre in
-    (listed-sixteen (now (a .tracked)) (a .block) _ (p .few-tracked) (c .before .look-up .ensures), p .few-ways, p .count, omega (arith, p .slot, p .count), p .room, p .aside, workable (a .ways) (length (now (a .tracked))) (a .limit) 4095 _ (omega arith) (p .table))
+    (listed-sixteen (now (a .tracked)) (a .block) _ (p .ranges .few-tracked) (c .before .look-up .ensures), p .ranges .few-ways, p .count, omega (arith, p .slot, p .count), p .room, p .aside, workable (a .ways) (length (now (a .tracked))) (a .limit) 4095 _ (omega arith) (p .table))
 
 settle-requires : tie.Need-settle-requires
 settle-requires c κs = let a = c .before .before .before .before .before .before .before .before .args in
     let p = c .before .before .before .before .before .before .before .before .pre in
-    let fits = gathered-fits (a .ways) (length (now (a .tracked))) (a .limit) 4095 _ _ _ _ _ (p .some-ways) (p .few-ways) (p .some-states) (p .few-states) (p .table) (c .before .before .before .gather .ensures .0) in
-    (omega (arith, p .room, c .before .before .before .gather .kept .0), p .slot, fits .0, p .some-states, p .few-states, fits .1)
+    let fits = gathered-fits (a .ways) (length (now (a .tracked))) (a .limit) 4095 _ _ _ _ _ (p .ranges .some-ways) (p .ranges .few-ways) (p .ranges .some-states) (p .ranges .few-states) (p .table) (c .before .before .before .gather .ensures .0) in
+    (omega (arith, p .room, c .before .before .before .gather .kept .0), p .slot, fits .0, p .ranges .some-states, p .ranges .few-states, fits .1)
 
 returns : tie.Need-returns
 returns c = let a = c .before .before .before .before .before .before .before .before .before .before .before .args in

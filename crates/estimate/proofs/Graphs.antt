@@ -1,0 +1,286 @@
+-- A graph: the edges into a node, the tables that its predecessors left in their slots, and one node after the other.
+use mathlib.Core.Path.{_≡_, refl, sym, ap, ap₂, _∙_, subst}
+use mathlib.Core.Bool.{Bool, true, false, cond, _||_, true≢false}
+use mathlib.Core.List.{List, [], _∷_, _++_}
+use Prim.Native.Nat.{ℕ, zero, suc, _+_, _-_, _*_, _≤_, _<_}
+use native.Mathlib.Omega.{arith}
+use lib.Dec.{eqb}
+use lib.ListN.{length, getD, set, take, drop, replicate, length-drop, length-take}
+use lib.Seq.{paste, take-take, length-take-le}
+use borrow.Author.Tests.{eq-eqb, ne-eqb, eqb-true}
+use Rattle.rules.specs.declared.State.{State}
+use Rattle.rules.specs.Units.{whole}
+use Rattle.rules.specs.Contents.{among}
+use Rattle.rules.specs.Table.{state, unitsOf, Work}
+use Rattle.rules.specs.Shape.{Every, Shaped, Table}
+use Rattle.rules.specs.Fold.{folded}
+use Rattle.rules.specs.Join.{join}
+use Rattle.rules.specs.Run.{run}
+use Rattle.rules.specs.Input.{Input, nodes, offset, runOf, edgesOf, predecessors}
+use Rattle.rules.specs.Graph.{Worked, tableAt, joinAll, enter, node, worked}
+use Rattle.rules.proofs.Refusals.{Checked, predecessor-lower}
+use Rattle.rules.proofs.Run.{table-wider, table-run}
+use Rattle.rules.proofs.Graph.{nodeTable, table-stays, first-and-others, table-enter, aside-enter, aside-worked, offset-next, offset-most, every-node}
+use Rattle.estimate.specs.Words.{tableOf}
+use Rattle.estimate.specs.Rooms.{Stands, InPlace, NodeDone, filled, slotOf, tableIn, tablesIn, workedIn}
+use Rattle.estimate.specs.Edges.{cameFrom, AtEdge}
+use Rattle.estimate.specs.Working.{workAt, Ready, Startable}
+use Rattle.estimate.proofs.InWords.{fits-table}
+use Rattle.estimate.proofs.Scratch.{stretch-long}
+use Rattle.estimate.proofs.Reasons.{edges-next, edges-end}
+use Rattle.estimate.proofs.Settling.{stands-work}
+use Rattle.estimate.proofs.Nodes.{paste-take, paste-there, tableIn-kept, tablesIn-kept, tablesIn-at, seal-table, seal-before}
+
+-- ---- the edges into a node
+
+module _ (ns : List ℕ) (j e : ℕ) where
+  -- an edge into node j, and the edges after it
+  pub into-here : e + 1 < length ns → getD ns (e + 1) 0 ≡ j → cameFrom ns j e ≡ getD ns e 0 ∷ cameFrom ns j (e + 2)
+  unfolding predecessors
+  into-here l h = sym (rw (eq-eqb (getD ns (e + 1) 0) j h) at (edges-next (λ es. predecessors es j) ns e _ refl l))
+
+  -- an edge into another node
+  pub into-other : e + 1 < length ns → (getD ns (e + 1) 0 ≡ j → ⊥) → cameFrom ns j (e + 2) ≡ cameFrom ns j e
+  unfolding predecessors
+  into-other l h = rw (ne-eqb (getD ns (e + 1) 0) j h) at (edges-next (λ es. predecessors es j) ns e _ refl l)
+
+  pub into-none : length ns ≤ e + 1 → cameFrom ns j e ≡ []
+  unfolding predecessors
+  into-none l = sym (edges-end (λ es. predecessors es j) ns e _ refl l)
+
+  -- the edge that stands there comes from a lower node, if all do
+  pub lower-here : AtEdge ns j e → e < length ns → Every (λ p. p < j) (cameFrom ns j e) → (getD ns e 0 < j) × Every (λ p. p < j) (cameFrom ns j (e + 2))
+  lower-here at l h = subst (λ ps. Every (λ p. p < j) ps) (into-here (at l .0) (at l .1)) h
+
+-- ---- the table in a slot, counted
+
+filled-most : (T : List State) → filled T ≤ length T
+unfolding filled
+filled-most [] = omega arith
+filled-most (s ∷ T) = go (eqb (unitsOf s) 0) (filled-most T)
+  where
+    go : (b : Bool) → filled T ≤ length T → cond b 0 (suc (filled T)) ≤ suc (length T)
+    go true h = omega arith
+    go false h = omega arith
+
+module _ (p m : ℕ) (T : List State) (count : m ≡ filled (slotOf p T)) where
+  pub counted-few : m ≤ 64
+  counted-few = omega (arith, filled-most (slotOf p T), length-take 64 (drop (p * 64) T))
+
+  pub counted : take m (drop (p * 64) T) ≡ tableIn p T
+  unfolding tableIn
+  counted = sym (take-take m 64 (drop (p * 64) T) counted-few) ∙ ap (λ (k : ℕ). take k (slotOf p T)) count
+
+-- the table that node p left, as it stands when the slots before node j's are as they were
+table-left : (j p a m : ℕ) (T₀ T : List State) → p < j → m ≡ filled (slotOf p T) → take (j * 64) T ≡ take (j * 64) T₀ → take m (drop (p * 64) T) ≡ tableAt (workedIn j a T₀) p
+table-left j p a m T₀ T l c e = counted p m T c ∙ tableIn-kept p (j * 64) T₀ T (omega arith) e ∙ sym (tablesIn-at j T₀ p l)
+
+-- ---- what node j starts from
+
+module _ (K j a₀ : ℕ) (T₀ : List State) where
+  -- one table more is joined
+  pub join-turn : (R R′ : List ℕ) (p n a n′ a′ m : ℕ) (ws ws′ : List ℕ) (W : Work) → R ≡ p ∷ R′ → p < j → m ≡ filled (slotOf p (tableOf ws))
+      → take (j * 64) (tableOf ws) ≡ take (j * 64) T₀ → joinAll K (workedIn j a₀ T₀) R (workAt (j * 64) n a ws) ≡ W
+      → InPlace (folded K (record { table = join (take n (drop (j * 64) (tableOf ws))) (take m (drop (p * 64) (tableOf ws))); aside = a })) (j * 64) n′ a′ (tableOf ws) (tableOf ws′)
+      → joinAll K (workedIn j a₀ T₀) R′ (workAt (j * 64) n′ a′ ws′) ≡ W
+  unfolding joinAll
+  join-turn R R′ p n a n′ a′ m ws ws′ W r l c e h g =
+      ap (joinAll K (workedIn j a₀ T₀) R′)
+      (stands-work _ (j * 64) n′ a′ ws′ (tableOf ws) g
+      ∙ ap (λ (U : List State). folded K (record { table = join (take n (drop (j * 64) (tableOf ws))) U; aside = a })) (table-left j p a₀ m T₀ (tableOf ws) l c e))
+      ∙ sym (ap (λ (Q : List ℕ). joinAll K (workedIn j a₀ T₀) Q (workAt (j * 64) n a ws)) r) ∙ h
+
+  -- all are joined
+  pub joined : (R : List ℕ) (n a : ℕ) (ws : List ℕ) (W : Work) → R ≡ [] → n ≤ 64 → j < 64 → 15552 ≤ length ws
+      → take (j * 64) (tableOf ws) ≡ take (j * 64) T₀ → joinAll K (workedIn j a₀ T₀) R (workAt (j * 64) n a ws) ≡ W → InPlace W (j * 64) n a T₀ (tableOf ws)
+  unfolding joinAll
+  joined R n a ws W r few node long e h =
+      rw (← h, r)
+      record {
+        stands = record { count = sym (stretch-long (j * 64) n (tableOf ws) (omega (arith, fits-table ws 5184 long))); table = refl; aside = refl };
+        before = e;
+      }
+
+  -- a node without predecessors starts from the start
+  pub enter-none : (R : List ℕ) (T : List State) → R ≡ [] → 5184 ≤ length T₀ → j < 64 → T ≡ set T₀ (j * 64) (state 0 0 whole) → InPlace (enter K (workedIn j a₀ T₀) R) (j * 64) 1 a₀ T₀ T
+  unfolding enter
+  enter-none R T r long node q =
+      rw r
+      record {
+        stands = record { count = refl; table = ap (λ (U : List State). take 1 (drop (j * 64) U)) q ∙ set-there (j * 64) T₀ (state 0 0 whole) (omega arith); aside = refl };
+        before = ap (take (j * 64)) q ∙ set-before (j * 64) T₀ (state 0 0 whole);
+      }
+    where
+      set-there : (i : ℕ) (T : List State) (s : State) → i < length T → take 1 (drop i (set T i s)) ≡ s ∷ []
+      set-there i [] s l = absurd (omega arith)
+      set-there zero (t ∷ T) s l = refl
+      set-there (suc i) (t ∷ T) s l = set-there i T s (omega arith)
+
+      set-before : (i : ℕ) (T : List State) (s : State) → take i (set T i s) ≡ take i T
+      set-before zero T s = refl
+      set-before (suc i) [] s = refl
+      set-before (suc i) (t ∷ T) s = ap (t ∷_) (set-before i T s)
+
+  -- the first predecessor's table is copied, and the others are joined to it
+  pub enter-some : (R R′ : List ℕ) (p m n a : ℕ) (ws ws₁ : List ℕ) (T : List State) → tableOf ws ≡ T₀ → R ≡ p ∷ R′ → p < j → j < 64 → 15552 ≤ length ws → m ≡ filled (slotOf p T₀)
+      → tableOf ws₁ ≡ paste T₀ (j * 64) (drop (p * 64) T₀) m
+      → InPlace (joinAll K (workedIn j a₀ (tableOf ws₁)) R′ (workAt (j * 64) m a₀ ws₁)) (j * 64) n a (tableOf ws₁) T
+      → InPlace (enter K (workedIn j a₀ T₀) R) (j * 64) n a T₀ T
+  unfolding enter
+  enter-some R R′ p m n a ws ws₁ T w r l node long c q g =
+      rw r
+      record {
+        stands = subst (λ (W : Work). Stands W n a (drop (j * 64) T)) (ap₂ (λ (d : Worked) (v : Work). joinAll K d R′ v) tables copied) (g .stands);
+        before = g .before ∙ kept;
+      }
+    where
+      room : 5184 ≤ length T₀
+      room = subst (λ (U : List State). 5184 ≤ length U) w (fits-table ws 5184 long)
+
+      few : m ≤ 64
+      few = counted-few p m T₀ c
+
+      kept : take (j * 64) (tableOf ws₁) ≡ take (j * 64) T₀
+      kept = ap (take (j * 64)) q ∙ paste-take T₀ (drop (p * 64) T₀) (j * 64) m (j * 64) (omega (arith, room)) (omega arith)
+
+      tables : workedIn j a₀ (tableOf ws₁) ≡ workedIn j a₀ T₀
+      tables = ap (λ (X : List (List State)). record { tables = X; aside = a₀ }) (tablesIn-kept j (j * 64) T₀ (tableOf ws₁) (omega arith) kept)
+
+      copied : workAt (j * 64) m a₀ ws₁ ≡ record { table = tableAt (workedIn j a₀ T₀) p; aside = a₀ }
+      copied =
+          ap (λ (X : List State). record { table = X; aside = a₀ })
+          (ap (λ (U : List State). take m (drop (j * 64) U)) q ∙ paste-there T₀ (drop (p * 64) T₀) (j * 64) m (omega (arith, room)) (omega (arith, room, few, length-drop (p * 64) T₀))
+          ∙ table-left j p a₀ m T₀ T₀ l c refl)
+
+-- ---- one node
+
+among-every : (P : ℕ → Type 0) (ps : List ℕ) → Every P ps → (p : ℕ) → among ps p ≡ true → P p
+among-every P [] h p e = absurd (true≢false (sym e))
+among-every P (q ∷ ps) h p e = go (eqb q p) refl e (among-every P ps (h .1) p)
+  where
+    go : (b : Bool) → eqb q p ≡ b → (b || among ps p) ≡ true → (among ps p ≡ true → P p) → P p
+    go true d e rest = subst P (eqb-true q p d) (h .0)
+    go false d e rest = rest e
+
+every-among : (P : ℕ → Type 0) (ps : List ℕ) → ((p : ℕ) → among ps p ≡ true → P p) → Every P ps
+every-among P [] h = tt
+every-among P (q ∷ ps) h = let (a, b) = first-and-others P q ps h in (a, every-among P ps b)
+
+module _ (N k K M j a : ℕ) (es ws : List ℕ) (s : Startable N k K M j a es ws) where
+  -- what it starts from can be worked on
+  pub entered-ready : (n a′ : ℕ) (ws₁ : List ℕ) → length ws₁ ≡ length ws
+      → InPlace (enter K (workedIn j a (tableOf ws)) (predecessors (edgesOf es) j)) (j * 64) n a′ (tableOf ws) (tableOf ws₁) → Ready N k K M (j * 64) n a′ ws₁
+  entered-ready n a′ ws₁ e g =
+      record {
+        ranges = s .ranges;
+        room = rw e (s .room);
+        slot = omega (arith, s .node);
+        count = omega (arith, g .stands .count, t .short, s .ranges .few-states);
+        aside = rw (g .stands .aside) (aside-enter K (workedIn j a (tableOf ws)) (predecessors (edgesOf es) j) (s .aside));
+        table = rw (g .stands .table) t;
+      }
+    where
+      left : (p : ℕ) → among (predecessors (edgesOf es) j) p ≡ true → Table N k K M (tableAt (workedIn j a (tableOf ws)) p)
+      left p e = let l = among-every (λ p. p < j) (predecessors (edgesOf es) j) (s .lower) p e in rw (tablesIn-at j (tableOf ws) p l) (s .tables p l)
+
+      t : Table N k K M (enter K (workedIn j a (tableOf ws)) (predecessors (edgesOf es) j) .table)
+      t = table-enter N k K (s .ranges .some-ways) (s .ranges .some-states) M (workedIn j a (tableOf ws)) (predecessors (edgesOf es) j) left
+
+-- its run leaves a table
+module _ (N K p n a : ℕ) (ts bs ws : List ℕ) (short : length bs ≤ 4096) (r : Ready N (length ts) K (4096 - length bs) p n a ws) where
+  node-table : Table N (length ts) K 4096 (run N K ts bs (workAt p n a ws) .table)
+  node-table =
+      table-wider N (length ts) K (length bs + (4096 - length bs)) 4096 _ (omega arith)
+      (table-run N K ts (r .ranges .some-ways) (r .ranges .some-states) (4096 - length bs) bs (workAt p n a ws) (r .table))
+
+  pub node-few : (m b : ℕ) (T : List State) → InPlace (run N K ts bs (workAt p n a ws)) p m b (tableOf ws) T → m ≤ 64
+  node-few m b T g = omega (arith, g .stands .count, node-table .short, r .ranges .few-states)
+
+some-units : (N k M : ℕ) (T : List State) → Every (Shaped N k M) T → Every (λ s. 1 ≤ unitsOf s) T
+some-units N k M [] h = tt
+some-units N k M (s ∷ T) h = (h .0 .1, some-units N k M T (h .1))
+
+-- which is found again in its slot
+pub node-done : (N K j a n a₁ m b : ℕ) (ts bs es ws ws₁ ws₂ : List ℕ) (T : List State) → length bs ≤ 4096 → Startable N (length ts) K (4096 - length bs) j a es ws
+    → length ws₁ ≡ length ws → InPlace (enter K (workedIn j a (tableOf ws)) (predecessors (edgesOf es) j)) (j * 64) n a₁ (tableOf ws) (tableOf ws₁)
+    → length ws₂ ≡ length ws₁ → InPlace (run N K ts bs (workAt (j * 64) n a₁ ws₁)) (j * 64) m b (tableOf ws₁) (tableOf ws₂)
+    → T ≡ paste (tableOf ws₂) (j * 64 + m) (replicate 64 (state 0 0 0)) (64 - m)
+    → NodeDone (run N K ts bs (enter K (workedIn j a (tableOf ws)) (predecessors (edgesOf es) j))) j b (tableOf ws) T
+node-done N K j a n a₁ m b ts bs es ws ws₁ ws₂ T short s e g f h q =
+    rw (← stands-work _ (j * 64) n a₁ ws₁ (tableOf ws) g)
+    record {
+      table = seal-table (tableOf ws₂) T X j m room few (h .stands .count) (h .stands .table) q (some-units N (length ts) 4096 X (t .shaped));
+      aside = h .stands .aside;
+      before = seal-before (tableOf ws₂) T X j m room few (h .stands .count) (h .stands .table) q ∙ h .before ∙ g .before;
+    }
+  where
+    X : List State
+    X = run N K ts bs (workAt (j * 64) n a₁ ws₁) .table
+
+    r : Ready N (length ts) K (4096 - length bs) (j * 64) n a₁ ws₁
+    r = entered-ready N (length ts) K (4096 - length bs) j a es ws s n a₁ ws₁ e g
+
+    t : Table N (length ts) K 4096 X
+    t = node-table N K (j * 64) n a₁ ts bs ws₁ short r
+
+    few : m ≤ 64
+    few = node-few N K (j * 64) n a₁ ts bs ws₁ short r m b (tableOf ws₂) h
+
+    room : j * 64 + 64 ≤ length (tableOf ws₂)
+    room = omega (arith, s .node, fits-table ws₂ 5184 (omega (arith, f, e, s .room)))
+
+-- ---- one node after the other
+
+pub offset-start : (lengths : List ℕ) → 0 ≡ offset lengths 0
+unfolding offset
+offset-start lengths = refl
+
+pub nodes-start : (i : Input) (T : List State) → workedIn 0 0 T ≡ worked i 0
+unfolding worked tablesIn
+nodes-start i T = refl
+
+module _ (i : Input) (ok : Checked i) (j : ℕ) (l : j < nodes i) where
+  -- its run lies within the access list
+  pub run-within : getD (i .lengths) j 0 + offset (i .lengths) j ≤ length (i .accesses)
+  run-within = omega (arith, offset-next (i .lengths) j l, offset-most (i .lengths) (suc j), ok .all-accesses)
+
+  -- and is the stretch of it that starts behind the runs before
+  pub run-part : (from : ℕ) → from ≡ offset (i .lengths) j → take (from + getD (i .lengths) j 0 - from) (drop from (i .accesses)) ≡ runOf i j
+  unfolding runOf
+  run-part from e = ap₂ (λ (n o : ℕ). take n (drop o (i .accesses))) long e
+    where
+      long : from + getD (i .lengths) j 0 - from ≡ getD (i .lengths) j 0
+      long = omega arith
+
+  pub run-long : length (runOf i j) ≡ getD (i .lengths) j 0
+  unfolding runOf
+  run-long = length-take-le (getD (i .lengths) j 0) (drop (offset (i .lengths) j) (i .accesses)) (omega (arith, run-within, length-drop (offset (i .lengths) j) (i .accesses)))
+
+  -- it can be worked where the nodes before it are
+  pub node-startable : (a m : ℕ) (ws : List ℕ) → workedIn j a (tableOf ws) ≡ worked i j → 15552 ≤ length ws → m ≡ length (runOf i j)
+      → Startable (i .ways) (length (i .tracked)) (i .limit) (4096 - m) j a (i .edges) ws
+  node-startable a m ws d room e =
+      record {
+        ranges = record { some-ways = ok .some-ways; few-ways = ok .few-ways; few-tracked = ok .few-tracked; some-states = ok .some-states; few-states = ok .few-states };
+        room = room;
+        node = omega (arith, ok .few-nodes, l);
+        aside = subst (λ (d : Worked). d .aside ≤ whole) (sym d) (aside-worked i (ok .some-ways) (ok .some-states) j);
+        lower = every-among (λ p. p < j) (predecessors (edgesOf (i .edges)) j) (λ p e. predecessor-lower i ok p j e .0);
+        tables = λ p k. rw (tables p k)
+            (table-wider (i .ways) (length (i .tracked)) (i .limit) (offset (i .lengths) j) (4096 - m) _ (omega (arith, e, run-long, run-within, ok .few-accesses))
+            (every-node i ok j (omega arith) p k));
+      }
+    where
+      tables : (p : ℕ) → p < j → tableIn p (tableOf ws) ≡ nodeTable i p
+      tables p k = sym (tablesIn-at j (tableOf ws) p k) ∙ ap (λ (d : Worked). tableAt d p) d ∙ table-stays i j p k
+
+  -- and then one more is
+  pub nodes-next : (a b : ℕ) (T T′ : List State) → workedIn j a T ≡ worked i j
+      → NodeDone (run (i .ways) (i .limit) (i .tracked) (runOf i j) (enter (i .limit) (workedIn j a T) (predecessors (edgesOf (i .edges)) j))) j b T T′
+      → workedIn (suc j) b T′ ≡ worked i (suc j)
+  unfolding worked node tablesIn
+  nodes-next a b T T′ d h =
+      ap₂ (λ (X : List (List State)) (b : ℕ). record { tables = X; aside = b })
+      (ap₂ (λ (X : List (List State)) (Y : List State). X ++ (Y ∷ [])) (tablesIn-kept j (j * 64) T T′ (omega arith) (h .before)) (h .table)) (h .aside)
+      ∙ ap (λ (d : Worked). let w = run (i .ways) (i .limit) (i .tracked) (runOf i j) (enter (i .limit) d (predecessors (edgesOf (i .edges)) j)) in
+      record { tables = d .tables ++ (w .table ∷ []); aside = w .aside }) d

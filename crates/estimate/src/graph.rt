@@ -1,0 +1,138 @@
+// Nodes one after the other, each from the joined tables of its predecessors.
+use crate::run::join_to;
+use crate::run::run;
+use crate::slots::count;
+use crate::slots::seal;
+use crate::states::Tally;
+use crate::words::copy;
+use crate::words::store;
+use rules::State;
+use rules::Units;
+ghost use mathlib.Core.Path.{_≡_};
+ghost use Prim.Native.Nat.{_+_, _-_, _*_, _≤_, _<_};
+ghost use lib.ListN.{length};
+ghost use Rattle.rules.specs.Input.{edgesOf, predecessors};
+ghost use Rattle.rules.specs.Shape.{Every};
+ghost use Rattle.rules.specs.Run.{run as runOver};
+ghost use Rattle.rules.specs.Graph.{enter as enterOf, joinAll, worked};
+ghost use Rattle.rules.proofs.Refusals.{Checked};
+ghost use Rattle.estimate.specs.Words.{tableOf};
+ghost use Rattle.estimate.specs.Rooms.{InPlace, NodeDone, tablesIn, workedIn};
+ghost use Rattle.estimate.specs.Edges.{cameFrom, AtEdge};
+ghost use Rattle.estimate.specs.Working.{workAt, Startable, inputOf};
+
+// Where the next edge into node `to` stands, from place `start` of the list on; the list's end if there is none.
+pub(crate) fn next_edge(edges: &[u32], to: usize, start: usize) -> usize
+    requires { ⌜ start ≤ length (now edges) ⌝ }
+    ensures { λ r. ⌜ (start ≤ r) × (r ≤ length (now (edges .entry))) × AtEdge (now (edges .entry)) to r × (cameFrom (now (edges .entry)) to r ≡ cameFrom (now (edges .entry)) to start) ⌝ }
+{
+    let mut e: usize = start;
+    while e + 1 < edges.len() {
+        if edges[e + 1] as usize == to {
+            return e;
+        }
+        e += 2;
+    }
+    edges.len()
+}
+
+// The tables of the predecessors, by the edges from place `after` on, joined one at a time to that of node `to`.
+pub(crate) fn join_others(
+    work: &mut [u64],
+    to: usize,
+    tally: Tally,
+    edges: &[u32],
+    after: usize,
+    limit: usize,
+) -> Tally
+    requires { ⌜ (15552 ≤ length (now work)) × (to < 64) × (tally .states ≤ 64) × (after ≤ length (now edges)) × (1 ≤ limit) × (limit ≤ 64) × Every (λ p. p < to) (cameFrom (now edges) to after) ⌝ }
+    ensures { λ r. ⌜ InPlace (joinAll limit (workedIn to (tally .aside .0) (tableOf (now (work .entry)))) (cameFrom (now (edges .entry)) to after) (workAt (to * 64) (tally .states) (tally .aside .0) (now (work .entry)))) (to * 64) (r .states) (r .aside .0) (tableOf (now (work .entry))) (tableOf (now (work .exit))) ⌝ }
+{
+    let mut now = tally;
+    let mut e = next_edge(edges, to, after);
+    while e < edges.len() {
+        let from = edges[e] as usize * 64;
+        let m = count(work, from);
+        now = join_to(work, to * 64, now, from, m, limit);
+        e = next_edge(edges, to, e + 2);
+    }
+    now
+}
+
+// What node `to` starts from, in its slot.
+pub(crate) fn enter(work: &mut [u64], to: usize, edges: &[u32], aside: Units, limit: usize) -> Tally
+    requires { ⌜ (15552 ≤ length (now work)) × (to < 64) × (1 ≤ limit) × (limit ≤ 64) × Every (λ p. p < to) (predecessors (edgesOf (now edges)) to) ⌝ }
+    ensures { λ r. ⌜ InPlace (enterOf limit (workedIn to (aside .0) (tableOf (now (work .entry)))) (predecessors (edgesOf (now (edges .entry))) to)) (to * 64) (r .states) (r .aside .0) (tableOf (now (work .entry))) (tableOf (now (work .exit))) ⌝ }
+{
+    let e = next_edge(edges, to, 0);
+    if edges.len() <= e {
+        store(
+            work,
+            to * 64,
+            State {
+                mask: 0,
+                misses: 0,
+                units: Units::WHOLE,
+            },
+        );
+        return Tally { states: 1, aside };
+    }
+    let from = edges[e] as usize * 64;
+    let n = count(work, from);
+    copy(work, from, to * 64, n);
+    join_others(work, to, Tally { states: n, aside }, edges, e + 2, limit)
+}
+
+// Node `j`, whose run is `accesses`, after the nodes before it; all units set aside so far.
+pub(crate) fn work_node(
+    work: &mut [u64],
+    j: usize,
+    aside: Units,
+    accesses: &[u32],
+    edges: &[u32],
+    tracked: &[u32],
+    ways: u64,
+    limit: usize,
+) -> Units
+    requires { ⌜ (length (now accesses) ≤ 4096) × Startable ways (length (now tracked)) limit (4096 - length (now accesses)) j (aside .0) (now edges) (now work) ⌝ }
+    ensures { λ r. ⌜ NodeDone (runOver ways limit (now (tracked .entry)) (now (accesses .entry)) (enterOf limit (workedIn j (aside .0) (tableOf (now (work .entry)))) (predecessors (edgesOf (now (edges .entry))) j))) j (r .0) (tableOf (now (work .entry))) (tableOf (now (work .exit))) ⌝ }
+{
+    let entered = enter(work, j, edges, aside, limit);
+    let done = run(work, j * 64, entered, accesses, tracked, ways, limit);
+    seal(work, j * 64, done.states);
+    done.aside
+}
+
+// All nodes; the units set aside over all of them.
+pub(crate) fn work_nodes(
+    work: &mut [u64],
+    runs: &[u32],
+    accesses: &[u32],
+    edges: &[u32],
+    tracked: &[u32],
+    ways: u64,
+    limit: usize,
+) -> Units
+    requires { ⌜ (15552 ≤ length (now work)) × Checked (inputOf ways limit (now tracked) (now runs) (now accesses) (now edges)) ⌝ }
+    ensures { λ r. ⌜ workedIn (length (now (runs .entry))) (r .0) (tableOf (now (work .exit))) ≡ worked (inputOf ways limit (now (tracked .entry)) (now (runs .entry)) (now (accesses .entry)) (now (edges .entry))) (length (now (runs .entry))) ⌝ }
+{
+    let mut aside = Units(0);
+    let mut from: usize = 0;
+    let mut j: usize = 0;
+    while j < runs.len() {
+        let to = from + runs[j] as usize;
+        aside = work_node(
+            work,
+            j,
+            aside,
+            &accesses[from..to],
+            edges,
+            tracked,
+            ways,
+            limit,
+        );
+        from = to;
+        j += 1;
+    }
+    aside
+}
