@@ -18,7 +18,7 @@ abbrev pub stored : List ℕ → ℕ → State → List ℕ
 stored ws i s = set (set (set ws (i * 3) (s .mask)) (i * 3 + 1) (s .misses)) (i * 3 + 2) (unitsOf s)
 
 -- one place further is three words further
-third : (i : ℕ) → suc i * 3 ≡ suc (suc (suc (i * 3)))
+pub third : (i : ℕ) → suc i * 3 ≡ suc (suc (suc (i * 3)))
 third i = omega arith
 
 third-1 : (i : ℕ) → suc i * 3 + 1 ≡ suc (suc (suc (i * 3 + 1)))

@@ -20,3 +20,5 @@ pub mod Nodes
 pub mod Settling
 -- Graphs
 pub mod Graphs
+-- What a call leaves
+pub mod Calls

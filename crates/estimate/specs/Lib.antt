@@ -12,3 +12,5 @@ pub mod Edges
 pub mod Pairing
 -- Working a table, a node, a graph
 pub mod Working
+-- What a call leaves
+pub mod Call

@@ -1,7 +1,16 @@
 // The estimate: from one access to a whole graph, in memory that the caller lends.
+use crate::checks::judge;
+use crate::finish::hand_over;
+use crate::graph::work_nodes;
+use rules::Outcome;
+use rules::Verdict;
+ghost use mathlib.Core.Path.{_≡_};
+ghost use Rattle.estimate.specs.Call.{analysed};
+
 mod access;
 mod checks;
 mod contents;
+mod finish;
 mod fold;
 mod graph;
 mod join;
@@ -10,3 +19,45 @@ mod run;
 mod slots;
 mod states;
 mod words;
+
+// The graph call: the finished table goes to `result`, three words a state, and `work` is used on the way.
+pub fn analyse(
+    ways: u32,
+    limit: u32,
+    tracked: &[u32],
+    runs: &[u32],
+    accesses: &[u32],
+    edges: &[u32],
+    result: &mut [u64],
+    work: &mut [u64],
+) -> Outcome
+    ensures { λ r. ⌜ record { answer = r; result = now (result .exit); work = now (work .exit) } ≡ analysed ways limit (now (tracked .entry)) (now (runs .entry)) (now (accesses .entry)) (now (edges .entry)) (now (result .entry)) (now (work .entry)) ⌝ }
+{
+    let result_room = result.len() / 3;
+    let working_room = work.len() / 3;
+    match judge(
+        ways,
+        limit,
+        tracked,
+        runs,
+        accesses,
+        edges,
+        result_room,
+        working_room,
+    ) {
+        Verdict::Refused(reason) => Outcome::Refused(reason),
+        Verdict::Accepted => {
+            let aside = work_nodes(
+                work,
+                runs,
+                accesses,
+                edges,
+                tracked,
+                ways as u64,
+                limit as usize,
+            );
+            let states = hand_over(result, work, runs.len() - 1);
+            Outcome::Finished(states, aside)
+        }
+    }
+}

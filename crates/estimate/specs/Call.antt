@@ -1,0 +1,44 @@
+-- What a call leaves: its answer, and the two rooms that were lent.
+use mathlib.Core.List.{List, _++_}
+use Prim.Native.Nat.{ℕ, _-_, _*_, _/_}
+use lib.ListN.{length, replicate}
+use Rattle.rules.specs.declared.State.{State}
+use Rattle.rules.specs.declared.Verdict.{Verdict}
+use Rattle.rules.specs.declared.Verdict.the-variants.{Accepted, Refused}
+use Rattle.rules.specs.declared.Outcome.{Outcome}
+use Rattle.rules.specs.Input.{Input}
+use Rattle.rules.specs.Graph.{finished}
+use Rattle.rules.specs.Refusals.{verdict, outcome}
+use Rattle.estimate.specs.Words.{wordsOf}
+
+pub record After : Type 0 where
+  pub answer : Outcome
+  pub result : List ℕ
+  pub work : List ℕ
+
+-- the table T in a room of n words: three words a state, then zeros
+abbrev pub written : List State → ℕ → List ℕ
+written T n = wordsOf T ++ replicate (n - length T * 3) 0
+
+-- an accepted call leaves the finished table in the result room, and zeros in the working room; a refused one leaves both as they were
+abbrev pub leaves : Verdict → Input → List ℕ → List ℕ → After
+leaves Accepted i result work = record { answer = outcome i; result = written (finished i .table) (length result); work = replicate (length work) 0 }
+leaves (Refused r) i result work = record { answer = outcome i; result = result; work = work }
+
+-- what comes in, of two rooms with three words to a state
+abbrev pub handed : ℕ → ℕ → List ℕ → List ℕ → List ℕ → List ℕ → List ℕ → List ℕ → Input
+handed N K ts ns bs es result work =
+    record {
+      ways = N;
+      limit = K;
+      tracked = ts;
+      lengths = ns;
+      accesses = bs;
+      edges = es;
+      resultRoom = length result / 3;
+      workingRoom = length work / 3;
+    }
+
+-- N ways, at most K states, the tracked blocks ts, the run lengths ns, the accesses bs, the edges es, and the two rooms
+unfoldable pub analysed : ℕ → ℕ → List ℕ → List ℕ → List ℕ → List ℕ → List ℕ → List ℕ → After
+analysed N K ts ns bs es result work = let i = handed N K ts ns bs es result work in leaves (verdict i) i result work
