@@ -1,0 +1,244 @@
+// One graph, one state limit: the graph call is made, and its table held to every path's choice sequences.
+use crate::numbers::WHOLE;
+use crate::numbers::power;
+use crate::numbers::read;
+use crate::paths::collect;
+use crate::paths::is_path;
+use crate::paths::sets_of;
+use crate::promises::hold_above;
+use crate::promises::hold_exact;
+use crate::report::Report;
+use crate::sequences::count_each;
+use crate::sequences::sequences_in;
+use crate::table::total;
+use estimate::analyse;
+use rules::Outcome;
+
+// Whether `block` is one of at most four tracked ones; 0 is no block.
+fn is_tracked(tracked: &[u32], block: u32) -> bool {
+    if read(tracked, 0) == block {
+        return true;
+    }
+    if read(tracked, 1) == block {
+        return true;
+    }
+    if read(tracked, 2) == block {
+        return true;
+    }
+    read(tracked, 3) == block
+}
+
+fn all_tracked(tracked: &[u32], accesses: &[u32]) -> bool {
+    let mut i: usize = 0;
+    while i < accesses.len() {
+        if !is_tracked(tracked, accesses[i]) {
+            return false;
+        }
+        i += 1;
+    }
+    true
+}
+
+// The counted choice sequences of a path, of which there are `all`. On a straight run whose blocks are all tracked (`tight`)
+// the units above a budget are tight, and exact where nothing is set aside.
+fn examine_counts(
+    table: &[u64],
+    aside: u64,
+    counts: &[u64; 256],
+    all: u64,
+    budgets: u64,
+    tight: bool,
+    report: Report,
+) -> Report {
+    let counted = report.walked(all).compared(sequences_in(counts) == all);
+    let above = hold_above(table, aside, counts, all, budgets, tight, counted);
+    if tight {
+        if aside == 0 {
+            return hold_exact(table, counts, all, above);
+        }
+    }
+    above
+}
+
+// One path, with every budget from 0 to one past its length.
+fn examine_path(
+    table: &[u64],
+    aside: u64,
+    ways: u32,
+    tracked: &[u32],
+    path: &[u32],
+    tight: bool,
+    report: Report,
+) -> Report {
+    if 16 < path.len() {
+        return report.compared(false);
+    }
+    let budgets = path.len() as u64 + 2;
+    let all = power(ways as u64, path.len());
+    let mut counts: [u64; 256] = [0; 256];
+    count_each(&mut counts, path, tracked, ways as u64, all);
+    examine_counts(table, aside, &counts, all, budgets, tight, report)
+}
+
+// The path that is the first `length` accesses of `path`.
+fn examine_first(
+    table: &[u64],
+    aside: u64,
+    ways: u32,
+    tracked: &[u32],
+    path: &[u32],
+    length: u64,
+    tight: bool,
+    report: Report,
+) -> Report {
+    if (path.len() as u64) < length {
+        return report.compared(false);
+    }
+    let end = length as usize;
+    examine_path(table, aside, ways, tracked, &path[0..end], tight, report)
+}
+
+// Whether a graph is a straight run whose blocks are all tracked.
+fn is_tight(nodes: usize, tracked: &[u32], accesses: &[u32]) -> bool {
+    if nodes == 1 {
+        return all_tracked(tracked, accesses);
+    }
+    false
+}
+
+// A set of nodes, where it is a path.
+fn examine_set(
+    table: &[u64],
+    aside: u64,
+    ways: u32,
+    tracked: &[u32],
+    runs: &[u32],
+    accesses: &[u32],
+    edges: &[u32],
+    chosen: u64,
+    report: Report,
+) -> Report {
+    let nodes = runs.len();
+    if nodes == 0 {
+        return report;
+    }
+    if 7 < nodes {
+        return report.compared(false);
+    }
+    if !is_path(chosen, edges, (nodes - 1) as u32) {
+        return report;
+    }
+    let mut path: [u32; 16] = [0; 16];
+    let length = collect(&mut path, chosen, runs, accesses);
+    let tight = is_tight(nodes, tracked, accesses);
+    examine_first(table, aside, ways, tracked, &path, length, tight, report)
+}
+
+// Every path.
+fn examine_paths(
+    table: &[u64],
+    aside: u64,
+    ways: u32,
+    tracked: &[u32],
+    runs: &[u32],
+    accesses: &[u32],
+    edges: &[u32],
+    report: Report,
+) -> Report {
+    let sets = sets_of(runs.len());
+    let mut done = report;
+    let mut chosen: u64 = 0;
+    while chosen < sets {
+        done = examine_set(
+            table,
+            aside,
+            ways,
+            tracked,
+            runs,
+            accesses,
+            edges,
+            chosen,
+            done,
+        );
+        chosen += 1;
+    }
+    done
+}
+
+// The finished table is the first `states` states of `result`.
+fn examine_result(
+    result: &[u64],
+    states: usize,
+    aside: u64,
+    ways: u32,
+    limit: u32,
+    tracked: &[u32],
+    runs: &[u32],
+    accesses: &[u32],
+    edges: &[u32],
+    report: Report,
+) -> Report {
+    if result.len() / 3 < states {
+        return report.compared(false);
+    }
+    let end = states * 3;
+    let table = &result[0..end];
+    let few = report.compared(states <= limit as usize);
+    let whole = few.compared(total(table) == WHOLE);
+    examine_paths(table, aside, ways, tracked, runs, accesses, edges, whole)
+}
+
+// The graph call with one state limit.
+fn examine(
+    ways: u32,
+    limit: u32,
+    tracked: &[u32],
+    runs: &[u32],
+    accesses: &[u32],
+    edges: &[u32],
+    report: Report,
+) -> Report {
+    let mut result: [u64; 192] = [0; 192];
+    let mut work: [u64; 15552] = [0; 15552];
+    let called = report.called();
+    match analyse(
+        ways,
+        limit,
+        tracked,
+        runs,
+        accesses,
+        edges,
+        &mut result,
+        &mut work,
+    ) {
+        Outcome::Finished(states, aside) => examine_result(
+            &result,
+            states,
+            aside.0,
+            ways,
+            limit,
+            tracked,
+            runs,
+            accesses,
+            edges,
+            called,
+        ),
+        Outcome::Refused(_) => called.compared(false),
+    }
+}
+
+// The graph call with a wide state limit and with narrow ones.
+pub(crate) fn examine_limits(
+    ways: u32,
+    tracked: &[u32],
+    runs: &[u32],
+    accesses: &[u32],
+    edges: &[u32],
+    report: Report,
+) -> Report {
+    let wide = examine(ways, 64, tracked, runs, accesses, edges, report);
+    let one = examine(ways, 1, tracked, runs, accesses, edges, wide);
+    let two = examine(ways, 2, tracked, runs, accesses, edges, one);
+    let three = examine(ways, 3, tracked, runs, accesses, edges, two);
+    examine(ways, 5, tracked, runs, accesses, edges, three)
+}

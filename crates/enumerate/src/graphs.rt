@@ -1,0 +1,65 @@
+// Small branching graphs. Edges are written from, to, from, to.
+use crate::report::Report;
+use crate::sweep::sweep;
+
+// One graph with one, two and three ways, and with some blocks untracked: every `stride`-th access list over three blocks.
+fn graph(runs: &[u32], edges: &[u32], length: usize, stride: u64, report: Report) -> Report {
+    let one = sweep(1, &[1, 2, 3], 3, runs, edges, length, stride, report);
+    let two = sweep(2, &[3, 1, 2], 3, runs, edges, length, stride, one);
+    let three = sweep(3, &[2, 3, 1], 3, runs, edges, length, stride, two);
+    sweep(2, &[2], 3, runs, edges, length, stride, three)
+}
+
+// Nodes 1 and 2 between 0 and 3: the two sides of a branch.
+fn diamond(runs: &[u32], length: usize, stride: u64, report: Report) -> Report {
+    graph(runs, &[0, 1, 0, 2, 1, 3, 2, 3], length, stride, report)
+}
+
+fn diamonds(report: Report) -> Report {
+    let single = diamond(&[1, 1, 1, 1], 4, 1, report);
+    let one_empty = diamond(&[1, 1, 0, 1], 3, 1, single);
+    let uneven = diamond(&[2, 1, 2, 1], 6, 7, one_empty);
+    let late = diamond(&[0, 2, 2, 2], 6, 11, uneven);
+    diamond(&[1, 0, 0, 2], 3, 1, late)
+}
+
+// Three predecessors at the last node.
+fn three_sides(runs: &[u32], length: usize, stride: u64, report: Report) -> Report {
+    graph(
+        runs,
+        &[0, 1, 0, 2, 0, 3, 1, 4, 2, 4, 3, 4],
+        length,
+        stride,
+        report,
+    )
+}
+
+// An edge from node 0 to node 2 passes node 1 by.
+fn passed_by(runs: &[u32], length: usize, stride: u64, report: Report) -> Report {
+    graph(runs, &[0, 1, 0, 2, 1, 2], length, stride, report)
+}
+
+// Two branches one after the other.
+fn twice(runs: &[u32], length: usize, stride: u64, report: Report) -> Report {
+    graph(
+        runs,
+        &[0, 1, 0, 2, 1, 3, 2, 3, 3, 4, 3, 5, 4, 6, 5, 6],
+        length,
+        stride,
+        report,
+    )
+}
+
+fn others(report: Report) -> Report {
+    let sides = three_sides(&[1, 1, 1, 1, 1], 5, 2, report);
+    let longer = three_sides(&[2, 1, 2, 0, 1], 6, 13, sides);
+    let passed = passed_by(&[1, 1, 1], 3, 1, longer);
+    let far = passed_by(&[2, 2, 2], 6, 7, passed);
+    let branches = twice(&[1, 1, 1, 1, 1, 1, 1], 7, 41, far);
+    let empty = twice(&[0, 0, 0, 0, 0, 0, 0], 0, 1, branches);
+    graph(&[1, 0, 2], &[0, 1, 1, 2], 3, 1, empty)
+}
+
+pub(crate) fn all_graphs(report: Report) -> Report {
+    others(diamonds(report))
+}

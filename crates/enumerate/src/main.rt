@@ -1,0 +1,46 @@
+// The independent second program (document 01, end of section 6). It walks every choice sequence of short runs and small
+// graphs on a little cache of its own, counts them, and holds the tables of the graph call to the counts:
+//
+// - the units of a table total 2^48, and it has at most K states;
+// - on a straight run whose blocks are all tracked, where nothing is set aside: the units of each contents and miss count
+//   are its exact share of the choice sequences;
+// - on every path and for every budget: the share of the sequences with more misses is at most the units above the budget;
+// - on a straight run whose blocks are all tracked: the units above exceed that share by no more than what is set aside.
+//
+// It shares no code with the graph call.
+use crate::graphs::all_graphs;
+use crate::report::Report;
+use crate::report::nothing_yet;
+use crate::straight::all_straight;
+
+mod cache;
+mod examine;
+mod graphs;
+mod numbers;
+mod paths;
+mod promises;
+mod report;
+mod sequences;
+mod straight;
+mod sweep;
+mod table;
+
+// One line: what was counted, and how many.
+fn say(what: &[u8], n: u64) {
+    io::write_all(1, what);
+    io::print_decimal(1, n);
+    io::write_all(1, b"\n");
+}
+
+fn say_all(r: Report) {
+    say(b"runs ", r.calls);
+    say(b"paths ", r.paths);
+    say(b"choice sequences ", r.sequences);
+    say(b"comparisons ", r.comparisons);
+    say(b"failed ", r.failed);
+}
+
+fn main() {
+    let straight = all_straight(nothing_yet());
+    say_all(all_graphs(straight));
+}

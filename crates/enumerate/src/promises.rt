@@ -1,0 +1,86 @@
+// What a table promises, held to the counted choice sequences of a path, of which there are `all`.
+use crate::numbers::WHOLE;
+use crate::numbers::at_most;
+use crate::numbers::equal;
+use crate::report::Report;
+use crate::sequences::sequences_above;
+use crate::table::units_above;
+use crate::table::units_in;
+
+// Tight: `units` above a budget exceed the share of the `above` sequences by no more than the units set aside.
+fn is_tight(units: u64, aside: u64, above: u64, all: u64) -> bool {
+    if units <= aside {
+        return true;
+    }
+    at_most(units - aside, all, WHOLE, above)
+}
+
+// Safe: the share of the sequences with more misses than `budget` is at most the units above it. And tight, where it has to be.
+fn compare_above(
+    table: &[u64],
+    aside: u64,
+    counts: &[u64; 256],
+    all: u64,
+    budget: u64,
+    tight: bool,
+    report: Report,
+) -> Report {
+    let above = sequences_above(counts, budget);
+    let units = units_above(table, budget);
+    let safe = report.compared(at_most(WHOLE, above, units, all));
+    if tight {
+        return safe.compared(is_tight(units, aside, above, all));
+    }
+    safe
+}
+
+// Exact: the units of a cell are its share of the sequences. Where there are neither, nothing is compared.
+fn compare_exact(
+    table: &[u64],
+    counts: &[u64; 256],
+    all: u64,
+    cell: usize,
+    report: Report,
+) -> Report {
+    if 255 < cell {
+        return report.compared(false);
+    }
+    let units = units_in(table, cell);
+    let sequences = counts[cell];
+    if units == 0 {
+        if sequences == 0 {
+            return report;
+        }
+    }
+    report.compared(equal(units, all, WHOLE, sequences))
+}
+
+// Every budget below `budgets`.
+pub(crate) fn hold_above(
+    table: &[u64],
+    aside: u64,
+    counts: &[u64; 256],
+    all: u64,
+    budgets: u64,
+    tight: bool,
+    report: Report,
+) -> Report {
+    let mut done = report;
+    let mut budget: u64 = 0;
+    while budget < budgets {
+        done = compare_above(table, aside, counts, all, budget, tight, done);
+        budget += 1;
+    }
+    done
+}
+
+// Exact in every cell. A state outside all cells would be missing from the units' total, which is compared too.
+pub(crate) fn hold_exact(table: &[u64], counts: &[u64; 256], all: u64, report: Report) -> Report {
+    let mut done = report;
+    let mut cell: usize = 0;
+    while cell < 256 {
+        done = compare_exact(table, counts, all, cell, done);
+        cell += 1;
+    }
+    done
+}

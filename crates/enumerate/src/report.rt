@@ -1,0 +1,65 @@
+// What was done so far.
+use crate::numbers::plus;
+
+pub(crate) struct Report {
+    // Graph calls.
+    pub calls: u64,
+    // Paths from the first node to the last.
+    pub paths: u64,
+    // Choice sequences walked over them.
+    pub sequences: u64,
+    // Comparisons, and how many of them failed.
+    pub comparisons: u64,
+    pub failed: u64,
+}
+
+pub(crate) fn nothing_yet() -> Report {
+    Report {
+        calls: 0,
+        paths: 0,
+        sequences: 0,
+        comparisons: 0,
+        failed: 0,
+    }
+}
+
+impl Report {
+    pub(crate) fn called(self) -> Report {
+        Report {
+            calls: plus(self.calls, 1),
+            paths: self.paths,
+            sequences: self.sequences,
+            comparisons: self.comparisons,
+            failed: self.failed,
+        }
+    }
+
+    // A path of `sequences` choice sequences was walked.
+    pub(crate) fn walked(self, sequences: u64) -> Report {
+        Report {
+            calls: self.calls,
+            paths: plus(self.paths, 1),
+            sequences: plus(self.sequences, sequences),
+            comparisons: self.comparisons,
+            failed: self.failed,
+        }
+    }
+
+    fn counted(self, failures: u64) -> Report {
+        Report {
+            calls: self.calls,
+            paths: self.paths,
+            sequences: self.sequences,
+            comparisons: plus(self.comparisons, 1),
+            failed: plus(self.failed, failures),
+        }
+    }
+
+    // A comparison, which held or failed.
+    pub(crate) fn compared(self, held: bool) -> Report {
+        if held {
+            return self.counted(0);
+        }
+        self.counted(1)
+    }
+}

@@ -1,0 +1,41 @@
+// Numbers of document 01, and how they are written.
+
+// Probability 1, in units: 2^48.
+pub(crate) const WHOLE: u64 = 281474976710656;
+// 2^47 and 2^46.
+pub(crate) const HALF: u64 = 140737488355328;
+
+pub(crate) const QUARTER: u64 = 70368744177664;
+
+// The largest 32-bit number.
+pub(crate) const TOP: u32 = 4294967295;
+
+// One line: some words and a number.
+pub(crate) fn say(words: &[u8], n: u64) {
+    io::write_all(1, words);
+    io::print_decimal(1, n);
+    io::write_all(1, b"\n");
+}
+
+// One state, as mask/misses/units.
+fn say_state(mask: u64, misses: u64, units: u64) {
+    io::write_all(1, b" ");
+    io::print_decimal(1, mask);
+    io::write_all(1, b"/");
+    io::print_decimal(1, misses);
+    io::write_all(1, b"/");
+    io::print_decimal(1, units);
+}
+
+// The first `states` states of a room; those that the room cannot hold are not written.
+pub(crate) fn say_states(room: &[u64], states: usize) {
+    let held = room.len() / 3;
+    let mut i: usize = 0;
+    while i < held {
+        if states <= i {
+            return;
+        }
+        say_state(room[i * 3], room[i * 3 + 1], room[i * 3 + 2]);
+        i += 1;
+    }
+}
