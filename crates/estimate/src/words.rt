@@ -38,10 +38,10 @@ pub(crate) fn store(words: &mut [u64], at: usize, s: State)
 pub(crate) fn clear(words: &mut [u64])
     ensures { λ _. ⌜ now (words .exit) ≡ replicate (length (now (words .entry))) 0 ⌝ }
 {
-    let mut i: usize = 0;
-    while i < words.len() {
-        words[i] = 0;
-        i += 1;
+    let mut at: usize = 0;
+    while at < words.len() {
+        words[at] = 0;
+        at += 1;
     }
 }
 

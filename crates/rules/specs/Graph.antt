@@ -16,15 +16,15 @@ pub record Worked : Type 0 where
 abbrev pub tableAt : Worked → ℕ → List State
 tableAt d j = getD (d .tables) j []
 
--- the tables of the nodes is joined to that of w: one at a time, each join folded before the next
+-- the tables of the nodes ps joined to that of w: one at a time, each join folded before the next
 unfoldable pub joinAll : ℕ → Worked → List ℕ → Work → Work
 joinAll K d [] w = w
-joinAll K d (i ∷ is) w = joinAll K d is (folded K (record { table = join (w .table) (tableAt d i); aside = w .aside }))
+joinAll K d (p ∷ ps) w = joinAll K d ps (folded K (record { table = join (w .table) (tableAt d p); aside = w .aside }))
 
--- what a node with the predecessors is starts from: the lowest one's table, with the others joined to it; node 0 from the start
+-- what a node starts from, whose predecessors are ps: the lowest one's table, with the others joined to it; node 0 from the start
 unfoldable pub enter : ℕ → Worked → List ℕ → Work
 enter K d [] = record { table = begin; aside = d .aside }
-enter K d (i ∷ is) = joinAll K d is (record { table = tableAt d i; aside = d .aside })
+enter K d (p ∷ ps) = joinAll K d ps (record { table = tableAt d p; aside = d .aside })
 
 -- node j, after the nodes before it: its run, from where it starts
 unfoldable pub node : Input → ℕ → Worked → Work

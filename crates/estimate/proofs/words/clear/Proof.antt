@@ -1,4 +1,4 @@
--- `clear` zeroes every word. The invariant of its loop: the words before i are zero, and the others are as they were.
+-- `clear` zeroes every word. The invariant of its loop: the words before place `at` are zero, and the others are as they were.
 use mathlib.Core.Path.{_≡_, refl}
 use mathlib.Core.List.{_++_}
 use Prim.Native.Nat.{_-_, _≤_}
@@ -12,19 +12,19 @@ use Rattle.estimate.proofs.words.clear.Statement.{statement}
 use Rattle.estimate.proofs.words.clear.Tie as tie
 
 abbrev Inv-loop : tie.InvT-loop
-Inv-loop words₀ i₀ words i = (i ≤ length words₀) × (length words ≡ length words₀) × (words ≡ replicate i 0 ++ drop i words₀)
+Inv-loop words₀ at₀ words at = (at ≤ length words₀) × (length words ≡ length words₀) × (words ≡ replicate at 0 ++ drop at words₀)
 
 abbrev μ-loop : tie.MeasureT-loop
-μ-loop words₀ i₀ words i = length words₀ - i
+μ-loop words₀ at₀ words at = length words₀ - at
 
 loop-holds : tie.Need-loop-holds Inv-loop μ-loop
 loop-holds c = (search needs, refl, fill-none _ 0)
 
 loop-again : tie.Need-loop-again Inv-loop μ-loop
-loop-again c = (search needs, search needs, rw (c .before .loop .inv .2) (fill-more (c .before .loop .i) 0 (now (c .before .before .args .words)) (omega arith)))
+loop-again c = (search needs, search needs, rw (c .before .loop .inv .2) (fill-more (c .before .loop .at) 0 (now (c .before .before .args .words)) (omega arith)))
 
 returns : tie.Need-returns Inv-loop μ-loop
-returns c = all-filled (now (c .before .before .args .words)) _ (c .before .loop .i) (omega arith) (c .before .loop .inv .2)
+returns c = all-filled (now (c .before .before .args .words)) _ (c .before .loop .at) (omega arith) (c .before .loop .inv .2)
 
 pub clear-spec : {M : Type 1} → statement M
 clear-spec =
