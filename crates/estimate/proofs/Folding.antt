@@ -178,8 +178,8 @@ module _ (T : List State) (n : ℕ) (room : n ≤ length T) where
     pub fewest-more : u ≤ unitsOf s → Fewest (take n T) k u (i + 1)
     fewest-more q = record { search = fewest-turn false (le-ltb _ _ q); units = h .units }
 
-  pub fewest-end : (k u i : ℕ) → i ≡ n → Fewest (take n T) k u i → k ≡ best fewer (take n T)
-  fewest-end k u i e h = sym (search-end fewer (take n T) k i (e ∙ sym (length-take-le n T room)) (h .search))
+  pub fewest-end : (k u i : ℕ) → i ≡ n → Fewest (take n T) k u i → best fewer (take n T) ≡ k
+  fewest-end k u i e h = search-end fewer (take n T) k i (e ∙ sym (length-take-le n T room)) (h .search)
 
 -- ---- its partner among the others
 
@@ -233,19 +233,14 @@ module _ (T : List State) (n : ℕ) (room : n ≤ length T) (i : ℕ) (among : i
         away = ap (apart s) (other 0 p t l e d);
       }
 
-  pub partner-end : (k most near j : ℕ) → s ≡ stateAt T i → j + 1 ≡ n → Nearest s R k most near j → k ≡ best (closer (stateAt (take n T) i)) R
-  partner-end k most near j d e h =
-      rw (getD-take n T i (state 0 0 0) among, ← d) (sym (search-end (closer s) R k j (omega (arith, long)) (h .search)))
-
--- the two searches find document 01's choice
-pub choice-found : (T : List State) (i k : ℕ) → i ≡ best fewer T → k ≡ best (closer (stateAt T i)) (remove i T) → record { fewest = i; partner = k } ≡ choice T
-unfolding choice
-choice-found T i k a b = rw (b, a) refl
+  -- the two searches have found document 01's choice
+  pub choice-found : (k most near j : ℕ) → s ≡ stateAt T i → best fewer (take n T) ≡ i → j + 1 ≡ n → Nearest s R k most near j
+      → record { fewest = i; partner = k } ≡ choice (take n T)
+  unfolding choice
+  choice-found k most near j d b e h =
+      rw (b, getD-take n T i (state 0 0 0) among, ← d, search-end (closer s) R k j (omega (arith, long)) (h .search))
 
 -- ---- the two places that are chosen
-
-pub best-within : (T : List State) (n k : ℕ) → n ≤ length T → 1 ≤ n → k ≡ best fewer (take n T) → k < n
-best-within T n k room some e = rw e (omega (arith, best-lt fewer (take n T) (omega (arith, length-take-le n T room)), length-take-le n T room))
 
 module _ (X : List State) (n : ℕ) (long : length X ≡ n) (some : 2 ≤ n) (p : Pair) (chosen : p ≡ choice X) where
   pub fewest-within : p .fewest < n

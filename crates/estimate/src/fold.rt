@@ -14,9 +14,9 @@ ghost use Prim.Native.Nat.{suc, _+_, _*_, _-_, _≤_, _<_};
 ghost use lib.Dec.{eqb, ltb};
 ghost use lib.ListN.{length, take};
 ghost use Rattle.rules.specs.Units.{more};
-ghost use Rattle.rules.specs.Ordered.{remove, best};
+ghost use Rattle.rules.specs.Ordered.{remove};
 ghost use Rattle.rules.specs.Table.{rising, stateAt};
-ghost use Rattle.rules.specs.Fold.{fewer, sharing as sharingOf, apart as apartOf, closer as closerOf, choice, changed as changedOf, fold, folded};
+ghost use Rattle.rules.specs.Fold.{sharing as sharingOf, apart as apartOf, choice, changed as changedOf, fold, folded};
 ghost use Rattle.estimate.specs.Words.{tableOf};
 ghost use Rattle.estimate.specs.Rooms.{Stands};
 
@@ -62,57 +62,45 @@ pub(crate) fn place_of(out: usize, at: usize) -> usize
     at + 1
 }
 
-// The place of the state of fewest units among `n`, the earliest if tied.
-pub(crate) fn find_fewest(words: &[u64], n: usize) -> usize
-    requires { ⌜ (1 ≤ n) × (n * 3 ≤ length (now words)) ⌝ }
-    ensures { λ r. ⌜ r ≡ best fewer (take n (tableOf (now (words .entry)))) ⌝ }
-{
-    let mut fewest: usize = 0;
-    let mut units = load(words, 0).units;
-    let mut i: usize = 1;
-    while i < n {
-        let u = load(words, i).units;
-        if u.0 < units.0 {
-            fewest = i;
-            units = u;
-        }
-        i += 1;
-    }
-    fewest
-}
-
-// The place among the others of the partner of the state at place `fewest`, the earliest if tied. Of the best so far it keeps how
-// many blocks that one shares, `most`, and how far away in misses it is, `near`.
-pub(crate) fn find_partner(words: &[u64], n: usize, fewest: usize) -> usize
-    requires { ⌜ (2 ≤ n) × (fewest < n) × (n * 3 ≤ length (now words)) ⌝ }
-    ensures { λ r. ⌜ r ≡ best (closerOf (stateAt (take n (tableOf (now (words .entry)))) fewest)) (remove fewest (take n (tableOf (now (words .entry))))) ⌝ }
-{
-    let s = load(words, fewest);
-    let first = load(words, place_of(fewest, 0));
-    let mut partner: usize = 0;
-    let mut most = sharing(s, first);
-    let mut near = apart(s, first);
-    let mut j: usize = 1;
-    while j + 1 < n {
-        let t = load(words, place_of(fewest, j));
-        if closer(s, t, most, near) {
-            partner = j;
-            most = sharing(s, t);
-            near = apart(s, t);
-        }
-        j += 1;
-    }
-    partner
-}
-
-// The state of fewest units among `n`, and its partner among the others.
+// The state of fewest units among `n`, and its partner among the others. Of the best partner so far it keeps how many blocks that
+// one shares, `most`, and how far away in misses it is, `near`.
 pub(crate) fn choose(words: &[u64], n: usize) -> Pair
     requires { ⌜ (2 ≤ n) × (n * 3 ≤ length (now words)) ⌝ }
     ensures { λ r. ⌜ r ≡ choice (take n (tableOf (now (words .entry)))) ⌝ }
 {
-    let fewest = find_fewest(words, n);
-    let partner = find_partner(words, n, fewest);
-    Pair { fewest, partner }
+    let mut fewest: usize = 0;
+    let mut units = load(words, 0).units;
+    let mut i: usize = 1;
+    let found = 'search: loop {
+        if i < n {
+            let u = load(words, i).units;
+            if u.0 < units.0 {
+                fewest = i;
+                units = u;
+            }
+            i += 1;
+        } else {
+            let s = load(words, fewest);
+            let first = load(words, place_of(fewest, 0));
+            let mut partner: usize = 0;
+            let mut most = sharing(s, first);
+            let mut near = apart(s, first);
+            let mut j: usize = 1;
+            loop {
+                if j + 1 >= n {
+                    break 'search Pair { fewest, partner };
+                }
+                let t = load(words, place_of(fewest, j));
+                if closer(s, t, most, near) {
+                    partner = j;
+                    most = sharing(s, t);
+                    near = apart(s, t);
+                }
+                j += 1;
+            }
+        }
+    };
+    found
 }
 
 // The first `n` states without the one at place `at`.
