@@ -13,14 +13,13 @@ use Rattle.rules.specs.declared.Verdict.{Verdict}
 use Rattle.rules.specs.declared.Verdict.the-variants.{Accepted, Refused}
 use Rattle.rules.specs.declared.Outcome.the-variants.{Finished, Refused as RefusedOutcome}
 use Rattle.rules.specs.Units.{units}
-use Rattle.rules.specs.Input.{Input, nodes, runOf}
+use Rattle.rules.specs.Input.{Input, inputOf, nodes, runOf}
 use Rattle.rules.specs.Graph.{Worked, tableAt, node, worked, finished}
 use Rattle.rules.specs.Refusals.{verdict, outcome}
 use Rattle.rules.proofs.Refusals.{Checked, accepted}
 use Rattle.rules.proofs.Graph.{finished-table, node-table}
 use Rattle.estimate.specs.Words.{tableOf, wordsOf}
 use Rattle.estimate.specs.Rooms.{filled, slotOf, tableIn, workedIn}
-use Rattle.estimate.specs.Working.{inputOf}
 use Rattle.estimate.specs.Call.{written, handed, analysed}
 use Rattle.estimate.proofs.InWords.{third, table-drop, fits-table}
 use Rattle.estimate.proofs.Scratch.{stretch-long}

@@ -107,12 +107,9 @@ pub shares-fit : (d q u N : ℕ) → d ≤ 16 → q ≡ u / N → u ≤ whole �
 shares-fit d q u N l e h = record { fits = lt-of-le-of-lt (mul-le-mul l (le-trans (le-of-eq e) (le-trans (div-le-self u N) h))) (lit< tt) }
 
 module _ (x : Place) (s : State) (N q : ℕ) where
-  -- where a way loses a block; and where the other ways lose none
+  -- where a way loses a block
   abbrev lostAll : List State
   lostAll = map (λ e. missed x s (without (s .mask) e) q) (held (s .mask))
-
-  abbrev keptAll : State
-  keptAll = missed x s (s .mask) ((N - size (s .mask)) * q)
 
   module _ (n : ℕ) (T : List State) (room : n ≤ length T) where
     pub lost-count : (m : ℕ) (T₁ : List State) → Added lostAll n m T T₁ → m ≤ n + size (s .mask)

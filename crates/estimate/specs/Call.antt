@@ -6,7 +6,7 @@ use Rattle.rules.specs.declared.State.{State}
 use Rattle.rules.specs.declared.Verdict.{Verdict}
 use Rattle.rules.specs.declared.Verdict.the-variants.{Accepted, Refused}
 use Rattle.rules.specs.declared.Outcome.{Outcome}
-use Rattle.rules.specs.Input.{Input}
+use Rattle.rules.specs.Input.{Input, inputIn}
 use Rattle.rules.specs.Graph.{finished}
 use Rattle.rules.specs.Refusals.{verdict, outcome}
 use Rattle.estimate.specs.Words.{wordsOf}
@@ -27,17 +27,7 @@ leaves (Refused r) i result work = record { answer = outcome i; result = result;
 
 -- what comes in, of two rooms with three words to a state
 abbrev pub handed : ℕ → ℕ → List ℕ → List ℕ → List ℕ → List ℕ → List ℕ → List ℕ → Input
-handed N K ts ns bs es result work =
-    record {
-      ways = N;
-      limit = K;
-      tracked = ts;
-      lengths = ns;
-      accesses = bs;
-      edges = es;
-      resultRoom = length result / 3;
-      workingRoom = length work / 3;
-    }
+handed N K ts ns bs es result work = inputIn N K ts ns bs es (length result / 3) (length work / 3)
 
 -- N ways, at most K states, the tracked blocks ts, the run lengths ns, the accesses bs, the edges es, and the two rooms
 unfoldable pub analysed : ℕ → ℕ → List ℕ → List ℕ → List ℕ → List ℕ → List ℕ → List ℕ → After

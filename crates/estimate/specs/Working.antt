@@ -1,11 +1,11 @@
--- What is asked of the working room before a table in it is worked, and what a graph call is handed.
+-- What is asked of the working room before a table in it is worked.
 use mathlib.Core.List.{List}
 use Prim.Native.Nat.{ℕ, _+_, _≤_, _<_}
 use lib.ListN.{length, take, drop}
 use Rattle.rules.specs.Units.{whole}
 use Rattle.rules.specs.Table.{Work}
 use Rattle.rules.specs.Shape.{Every, Table}
-use Rattle.rules.specs.Input.{Input, edgesOf, predecessors}
+use Rattle.rules.specs.Input.{edgesOf, predecessors}
 use Rattle.estimate.specs.Words.{tableOf}
 use Rattle.estimate.specs.Rooms.{tableIn}
 
@@ -38,17 +38,3 @@ pub record Startable (N k K M j a : ℕ) (es ws : List ℕ) : Type 0 where
   pub aside : a ≤ whole
   pub lower : Every (λ p. p < j) (predecessors (edgesOf es) j)
   pub tables : (p : ℕ) → p < j → Table N k K M (tableIn p (tableOf ws))
-
--- what comes in, with just the room that is needed
-abbrev pub inputOf : ℕ → ℕ → List ℕ → List ℕ → List ℕ → List ℕ → Input
-inputOf N K ts ns bs es =
-    record {
-      ways = N;
-      limit = K;
-      tracked = ts;
-      lengths = ns;
-      accesses = bs;
-      edges = es;
-      resultRoom = K;
-      workingRoom = 5184;
-    }

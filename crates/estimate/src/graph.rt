@@ -11,7 +11,7 @@ use rules::Units;
 ghost use mathlib.Core.Path.{_≡_};
 ghost use Prim.Native.Nat.{_+_, _-_, _*_, _≤_, _<_};
 ghost use lib.ListN.{length};
-ghost use Rattle.rules.specs.Input.{edgesOf, predecessors};
+ghost use Rattle.rules.specs.Input.{inputOf, edgesOf, predecessors};
 ghost use Rattle.rules.specs.Shape.{Every};
 ghost use Rattle.rules.specs.Run.{run as runOver};
 ghost use Rattle.rules.specs.Graph.{enter as enterOf, joinAll, worked};
@@ -19,7 +19,7 @@ ghost use Rattle.rules.proofs.Refusals.{Checked};
 ghost use Rattle.estimate.specs.Words.{tableOf};
 ghost use Rattle.estimate.specs.Rooms.{InPlace, NodeDone, tablesIn, workedIn};
 ghost use Rattle.estimate.specs.Edges.{cameFrom, AtEdge};
-ghost use Rattle.estimate.specs.Working.{workAt, Startable, inputOf};
+ghost use Rattle.estimate.specs.Working.{workAt, Startable};
 
 // Where the next edge into node `to` stands, from place `start` of the list on; the list's end if there is none.
 pub(crate) fn next_edge(edges: &[u32], to: usize, start: usize) -> usize

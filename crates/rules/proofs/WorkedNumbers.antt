@@ -6,7 +6,7 @@ use Prim.Native.Nat.{ℕ, _^_, _*_}
 use Rattle.rules.specs.Units.{whole, more}
 use Rattle.rules.specs.Answers.{OutcomeSays, outcomeSays}
 use Rattle.rules.specs.Contents.{places, find, bit, with, without, shared, heldBelow, held, size}
-use Rattle.rules.specs.Input.{Input, offset, runOf, predecessors}
+use Rattle.rules.specs.Input.{Input, inputOf, offset, runOf, predecessors}
 use Rattle.rules.specs.Ordered.{insert, insertAll, remove, best}
 use Rattle.rules.specs.Table.{State, state, order, add}
 use Rattle.rules.specs.Step.{miss, successors, leftOver, access, accessAside}
@@ -21,20 +21,6 @@ pub record Case : Type 0 where
   pub input : Input
   pub states : List State
   pub said : OutcomeSays
-
--- N, K, tracked blocks, run lengths, accesses, edges; with exactly the room that is needed
-abbrev given : ℕ → ℕ → List ℕ → List ℕ → List ℕ → List ℕ → Input
-given N K ts ns bs es =
-    record {
-      ways = N;
-      limit = K;
-      tracked = ts;
-      lengths = ns;
-      accesses = bs;
-      edges = es;
-      resultRoom = K;
-      workingRoom = 5184;
-    }
 
 abbrev comes : Input → List State → ℕ → ℕ → Case
 comes i T n aside = record { input = i; states = T; said = record { number = 0; states = n; aside = aside } }
@@ -62,28 +48,28 @@ abc = a ∷ b ∷ c ∷ []
 pub cases : List Case
 cases =
     -- 1: the empty run
-    comes (given 2 64 abc (0 ∷ []) [] []) (state 0 0 whole ∷ []) 1 0
+    comes (inputOf 2 64 abc (0 ∷ []) [] []) (state 0 0 whole ∷ []) 1 0
     -- 2: a b c b a
-    ∷ comes (given 2 64 abc (5 ∷ []) (a ∷ b ∷ c ∷ b ∷ a ∷ []) [])
+    ∷ comes (inputOf 2 64 abc (5 ∷ []) (a ∷ b ∷ c ∷ b ∷ a ∷ []) [])
     (state 1 5 17592186044416 ∷ state 3 4 105553116266496 ∷ state 3 5 52776558133248 ∷ state 5 4 70368744177664 ∷ state 5 5 35184372088832 ∷ [])
     5 0
     -- 3: one way
-    ∷ comes (given 1 64 abc (4 ∷ []) (a ∷ a ∷ b ∷ a ∷ []) []) (state 1 3 whole ∷ []) 1 0
+    ∷ comes (inputOf 1 64 abc (4 ∷ []) (a ∷ a ∷ b ∷ a ∷ []) []) (state 1 3 whole ∷ []) 1 0
     -- 4: three ways
-    ∷ comes (given 3 64 abc (2 ∷ []) (a ∷ b ∷ []) []) (state 2 2 93824992236886 ∷ state 3 2 187649984473770 ∷ []) 2 2
+    ∷ comes (inputOf 3 64 abc (2 ∷ []) (a ∷ b ∷ []) []) (state 2 2 93824992236886 ∷ state 3 2 187649984473770 ∷ []) 2 2
     -- 5: one state
-    ∷ comes (given 2 1 abc (5 ∷ []) (a ∷ b ∷ c ∷ b ∷ a ∷ []) []) (state 1 5 whole ∷ []) 1 whole
+    ∷ comes (inputOf 2 1 abc (5 ∷ []) (a ∷ b ∷ c ∷ b ∷ a ∷ []) []) (state 1 5 whole ∷ []) 1 whole
     -- 6: two states
-    ∷ comes (given 2 2 abc (3 ∷ []) (a ∷ b ∷ c ∷ []) []) (state 4 3 (2 ^ 47) ∷ state 6 3 (2 ^ 47) ∷ []) 2 70368744177664
+    ∷ comes (inputOf 2 2 abc (3 ∷ []) (a ∷ b ∷ c ∷ []) []) (state 4 3 (2 ^ 47) ∷ state 6 3 (2 ^ 47) ∷ []) 2 70368744177664
     -- 7: only a tracked
-    ∷ comes (given 2 64 (a ∷ []) (3 ∷ []) (a ∷ u ∷ a ∷ []) []) (state 1 2 (2 ^ 47) ∷ state 1 3 (2 ^ 47) ∷ []) 2 0
+    ∷ comes (inputOf 2 64 (a ∷ []) (3 ∷ []) (a ∷ u ∷ a ∷ []) []) (state 1 2 (2 ^ 47) ∷ state 1 3 (2 ^ 47) ∷ []) 2 0
     -- 8: only a tracked, u twice
-    ∷ comes (given 2 64 (a ∷ []) (4 ∷ []) (a ∷ u ∷ u ∷ a ∷ []) []) (state 1 3 (2 ^ 46) ∷ state 1 4 (3 * 2 ^ 46) ∷ []) 2 0
+    ∷ comes (inputOf 2 64 (a ∷ []) (4 ∷ []) (a ∷ u ∷ u ∷ a ∷ []) []) (state 1 3 (2 ^ 46) ∷ state 1 4 (3 * 2 ^ 46) ∷ []) 2 0
     -- 9: nodes a; b; empty; a
-    ∷ comes (given 2 64 abc (1 ∷ 1 ∷ 0 ∷ 1 ∷ []) (a ∷ b ∷ a ∷ []) (0 ∷ 1 ∷ 0 ∷ 2 ∷ 1 ∷ 3 ∷ 2 ∷ 3 ∷ []))
+    ∷ comes (inputOf 2 64 abc (1 ∷ 1 ∷ 0 ∷ 1 ∷ []) (a ∷ b ∷ a ∷ []) (0 ∷ 1 ∷ 0 ∷ 2 ∷ 1 ∷ 3 ∷ 2 ∷ 3 ∷ []))
     (state 1 2 (2 ^ 47) ∷ state 1 3 (2 ^ 47) ∷ []) 2 0
     -- 10: nothing tracked
-    ∷ comes (given 2 64 [] (2 ∷ []) (u ∷ u ∷ []) []) (state 0 2 whole ∷ []) 1 0
+    ∷ comes (inputOf 2 64 [] (2 ∷ []) (u ∷ u ∷ []) []) (state 0 2 whole ∷ []) 1 0
     ∷ []
 
 pub each-comes-out : map workedOut cases ≡ cases

@@ -17,6 +17,24 @@ pub record Input : Type 0 where
   pub resultRoom : ℕ
   pub workingRoom : ℕ
 
+-- N ways, at most K states, the tracked blocks ts, the run lengths ns, the accesses bs, the edges es, rooms of r and w states
+abbrev pub inputIn : ℕ → ℕ → List ℕ → List ℕ → List ℕ → List ℕ → ℕ → ℕ → Input
+inputIn N K ts ns bs es r w =
+    record {
+      ways = N;
+      limit = K;
+      tracked = ts;
+      lengths = ns;
+      accesses = bs;
+      edges = es;
+      resultRoom = r;
+      workingRoom = w;
+    }
+
+-- the same, with exactly the room that is needed
+abbrev pub inputOf : ℕ → ℕ → List ℕ → List ℕ → List ℕ → List ℕ → Input
+inputOf N K ts ns bs es = inputIn N K ts ns bs es K 5184
+
 -- how many nodes there are: one for each run length
 abbrev pub nodes : Input → ℕ
 nodes i = length (i .lengths)

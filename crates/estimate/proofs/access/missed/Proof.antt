@@ -1,11 +1,16 @@
 -- `missed` has one miss more, and the accessed block.
+use mathlib.Core.Path.{ap₂}
+use Prim.Native.Nat.{ℕ}
 use native.Mathlib.Numerals.{add-one}
 use borrow.Author.Needs.{needs}
+use Rattle.rules.specs.Table.{state}
 use Rattle.estimate.proofs.access.missed.Statement.{statement}
 use Rattle.estimate.proofs.access.missed.Tie as tie
 
 returns : tie.Need-returns
-returns c = rw (c .before .with-block .ensures, add-one (c .before .before .args .s .misses))
+returns c =
+    let a = c .before .before .args in
+    ap₂ (λ (C m : ℕ). state C m (a .units .0)) (c .before .with-block .ensures) (add-one (a .s .misses))
 
 pub missed-spec : {M : Type 1} → statement M
 missed-spec =

@@ -6,12 +6,11 @@ use native.Mathlib.Numerals.{add-one}
 use native.Mathlib.Omega.{arith}
 use denote.Ref.{now}
 use lib.ListN.{length}
-use Rattle.rules.specs.Input.{offset}
+use Rattle.rules.specs.Input.{inputOf, offset}
 use Rattle.rules.specs.Graph.{worked}
 use Rattle.rules.proofs.Graph.{offset-next}
 use Rattle.estimate.specs.Words.{tableOf}
 use Rattle.estimate.specs.Rooms.{workedIn}
-use Rattle.estimate.specs.Working.{inputOf}
 use Rattle.estimate.proofs.Graphs.{offset-start, nodes-start, run-within, run-part, run-long, node-startable, nodes-next}
 use borrow.Author.Needs.{needs}
 use Rattle.estimate.proofs.graph.work_nodes.Statement.{statement}
