@@ -18,10 +18,10 @@ use Rattle.rules.specs.Graph.{Worked, tableAt, node, worked, finished}
 use Rattle.rules.specs.Refusals.{verdict, outcome}
 use Rattle.rules.proofs.Refusals.{Checked, accepted}
 use Rattle.rules.proofs.Graph.{finished-table, node-table}
-use Rattle.estimate.specs.Words.{tableOf, wordsOf}
+use Rattle.words.specs.Tables.{tableOf, wordsOf}
 use Rattle.estimate.specs.Rooms.{filled, slotOf, tableIn, workedIn}
 use Rattle.estimate.specs.Call.{written, handed, analysed}
-use Rattle.estimate.proofs.InWords.{third, table-drop, fits-table}
+use Rattle.words.proofs.Tables.{third, table-drop, fits-table}
 use Rattle.estimate.proofs.Scratch.{stretch-long}
 use Rattle.estimate.proofs.Nodes.{tablesIn-at}
 use Rattle.estimate.proofs.Graphs.{counted, counted-few}

@@ -21,13 +21,13 @@ use Rattle.rules.specs.Graph.{Worked, tableAt, joinAll, enter, node, worked}
 use Rattle.rules.proofs.Refusals.{Checked, predecessor-lower}
 use Rattle.rules.proofs.Run.{table-wider, table-run}
 use Rattle.rules.proofs.Graph.{nodeTable, table-stays, first-and-others, table-enter, aside-enter, aside-worked, offset-next, offset-most, every-node}
-use Rattle.estimate.specs.Words.{tableOf}
+use Rattle.words.specs.Tables.{tableOf}
 use Rattle.estimate.specs.Rooms.{Stands, InPlace, NodeDone, filled, slotOf, tableIn, tablesIn, workedIn}
 use Rattle.estimate.specs.Edges.{cameFrom, AtEdge}
 use Rattle.estimate.specs.Working.{workAt, Ready, Startable}
-use Rattle.estimate.proofs.InWords.{fits-table}
+use Rattle.words.proofs.Tables.{fits-table}
 use Rattle.estimate.proofs.Scratch.{stretch-long}
-use Rattle.estimate.proofs.Reasons.{edges-next, edges-end}
+use Rattle.refusals.proofs.Reasons.{edges-next, edges-end}
 use Rattle.estimate.proofs.Settling.{stands-work}
 use Rattle.estimate.proofs.Nodes.{paste-take, paste-there, tableIn-kept, tablesIn-kept, tablesIn-at, seal-table, seal-before}
 

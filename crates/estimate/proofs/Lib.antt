@@ -1,5 +1,3 @@
--- Tables in lent words
-pub mod InWords
 -- States put where they belong
 pub mod Insertion
 -- Masks, and looking up a block
@@ -8,8 +6,6 @@ pub mod Masks
 pub mod Scratch
 -- The states that follow
 pub mod Following
--- When the work says no
-pub mod Reasons
 -- Folding
 pub mod Folding
 -- Joining two tables

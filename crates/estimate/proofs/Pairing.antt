@@ -20,11 +20,11 @@ use Rattle.rules.specs.Join.{Match, matched, paired, less, leftAfter, placeAfte
 use Rattle.rules.proofs.Join.{length-after}
 use Rattle.rules.proofs.Table.{rising-is, rising-so, rising-add, length-add-all, add-append}
 use Rattle.estimate.specs.declared.join.Front.{Front}
-use Rattle.estimate.specs.Words.{tableOf}
+use Rattle.words.specs.Tables.{tableOf}
 use Rattle.estimate.specs.Placing.{Added}
 use Rattle.estimate.specs.Rooms.{InScratch}
 use Rattle.estimate.specs.Pairing.{frontAt, frontAfter}
-use Rattle.estimate.proofs.InWords.{fits-table}
+use Rattle.words.proofs.Tables.{fits-table}
 use Rattle.estimate.proofs.Scratch.{stretch-kept, stretch-long, partFrom, part-table, part-long, backFrom, back-long, back-slots, back-scratch}
 
 -- ---- the front that is read

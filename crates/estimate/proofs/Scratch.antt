@@ -8,10 +8,10 @@ use lib.ListN.{length, take, drop, length-append, length-drop, drop-of-length-le
 use lib.Seq.{take-all, take-at, take-take, drop-at, getD-take, getD-drop, length-take-le}
 use Rattle.rules.specs.declared.State.{State}
 use Rattle.rules.specs.Table.{state, rising, add, stateAt}
-use Rattle.estimate.specs.Words.{tableOf}
+use Rattle.words.specs.Tables.{tableOf}
 use Rattle.estimate.specs.Placing.{Added}
 use Rattle.estimate.specs.Rooms.{InScratch}
-use Rattle.estimate.proofs.InWords.{table-take, table-drop, table-append, fits-table}
+use Rattle.words.proofs.Tables.{table-take, table-drop, table-append, fits-table}
 
 -- ---- stretches of states
 

@@ -19,11 +19,11 @@ use Rattle.rules.specs.Run.{advance, run}
 use Rattle.rules.proofs.Table.{rising-is}
 use Rattle.rules.proofs.Join.{rising-join, length-join}
 use Rattle.rules.proofs.Run.{rising-access, access-length, table-advance, table-wider, advance-aside, find-listed}
-use Rattle.estimate.specs.Words.{tableOf}
+use Rattle.words.specs.Tables.{tableOf}
 use Rattle.estimate.specs.Rooms.{InScratch, Stands, InPlace}
 use Rattle.estimate.specs.Following.{Workable}
 use Rattle.estimate.specs.Working.{workAt, Ready}
-use Rattle.estimate.proofs.InWords.{fits-table}
+use Rattle.words.proofs.Tables.{fits-table}
 use Rattle.estimate.proofs.Scratch.{stretch-kept, stretch-long}
 use Rattle.estimate.proofs.Nodes.{paste-there, paste-take}
 

@@ -9,7 +9,7 @@ use Rattle.rules.specs.declared.Outcome.{Outcome}
 use Rattle.rules.specs.Input.{Input, inputIn}
 use Rattle.rules.specs.Graph.{finished}
 use Rattle.rules.specs.Refusals.{verdict, outcome}
-use Rattle.estimate.specs.Words.{wordsOf}
+use Rattle.words.specs.Tables.{wordsOf}
 
 pub record After : Type 0 where
   pub answer : Outcome

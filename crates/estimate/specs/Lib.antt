@@ -1,5 +1,3 @@
--- Tables in lent words
-pub mod Words
 -- States put where they belong
 pub mod Placing
 -- The working room: a slot for each node, and the scratch behind them

@@ -6,7 +6,7 @@ use Rattle.rules.specs.Units.{whole}
 use Rattle.rules.specs.Table.{Work}
 use Rattle.rules.specs.Shape.{Every, Table}
 use Rattle.rules.specs.Input.{edgesOf, predecessors}
-use Rattle.estimate.specs.Words.{tableOf}
+use Rattle.words.specs.Tables.{tableOf}
 use Rattle.estimate.specs.Rooms.{tableIn}
 
 -- the table of n states at place p, with the set-aside count a

@@ -1,11 +1,11 @@
 // The finished table, handed over.
 use crate::slots::count;
-use crate::words::clear;
+use words::clear;
 ghost use mathlib.Core.Path.{_≡_};
 ghost use Prim.Native.Nat.{_+_, _*_, _≤_, _<_};
 ghost use lib.ListN.{length, drop, replicate};
 ghost use lib.Seq.{paste};
-ghost use Rattle.estimate.specs.Words.{tableOf};
+ghost use Rattle.words.specs.Tables.{tableOf};
 ghost use Rattle.estimate.specs.Rooms.{tableIn};
 ghost use Rattle.estimate.specs.Call.{written};
 

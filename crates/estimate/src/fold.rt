@@ -1,10 +1,10 @@
 // Folding a table down to the state limit.
 use crate::contents::size_of;
+use crate::memory::load;
+use crate::memory::store;
 use crate::placing::add;
 use crate::states::Tally;
 use crate::states::meet;
-use crate::words::load;
-use crate::words::store;
 use rules::Pair;
 use rules::State;
 use rules::Units;
@@ -17,7 +17,7 @@ ghost use Rattle.rules.specs.Units.{more};
 ghost use Rattle.rules.specs.Ordered.{remove};
 ghost use Rattle.rules.specs.Table.{rising, stateAt};
 ghost use Rattle.rules.specs.Fold.{sharing as sharingOf, apart as apartOf, choice, changed as changedOf, fold, folded};
-ghost use Rattle.estimate.specs.Words.{tableOf};
+ghost use Rattle.words.specs.Tables.{tableOf};
 ghost use Rattle.estimate.specs.Rooms.{Stands};
 
 // How many blocks `s` shares with `t`.

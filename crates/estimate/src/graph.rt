@@ -1,11 +1,11 @@
 // Nodes one after the other, each from the joined tables of its predecessors.
+use crate::memory::copy;
+use crate::memory::store;
 use crate::run::join_to;
 use crate::run::run;
 use crate::slots::count;
 use crate::slots::seal;
 use crate::states::Tally;
-use crate::words::copy;
-use crate::words::store;
 use rules::State;
 use rules::Units;
 ghost use mathlib.Core.Path.{_≡_};
@@ -16,7 +16,7 @@ ghost use Rattle.rules.specs.Shape.{Every};
 ghost use Rattle.rules.specs.Run.{run as runOver};
 ghost use Rattle.rules.specs.Graph.{enter as enterOf, joinAll, worked};
 ghost use Rattle.rules.proofs.Refusals.{Checked};
-ghost use Rattle.estimate.specs.Words.{tableOf};
+ghost use Rattle.words.specs.Tables.{tableOf};
 ghost use Rattle.estimate.specs.Rooms.{InPlace, NodeDone, tablesIn, workedIn};
 ghost use Rattle.estimate.specs.Edges.{cameFrom, AtEdge};
 ghost use Rattle.estimate.specs.Working.{workAt, Startable};

@@ -1,7 +1,7 @@
 // Joining two tables: both from the front, as many units at a time as the smaller remaining amount allows.
+use crate::memory::load;
 use crate::placing::add;
 use crate::states::meet;
-use crate::words::load;
 use rules::State;
 use rules::Units;
 ghost use mathlib.Core.Path.{_≡_};
@@ -9,7 +9,7 @@ ghost use Prim.Native.Nat.{_+_, _*_, _≤_, _<_, min};
 ghost use lib.ListN.{length, take, drop};
 ghost use Rattle.rules.specs.Join.{join};
 ghost use Rattle.rules.specs.Table.{unitsOf};
-ghost use Rattle.estimate.specs.Words.{tableOf};
+ghost use Rattle.words.specs.Tables.{tableOf};
 ghost use Rattle.estimate.specs.Rooms.{InScratch};
 ghost use Rattle.estimate.specs.Pairing.{frontAt, frontAfter};
 

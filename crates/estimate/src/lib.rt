@@ -1,24 +1,23 @@
 // The estimate: from one access to a whole graph, in memory that the caller lends.
-use crate::checks::judge;
 use crate::finish::hand_over;
 use crate::graph::work_nodes;
+use refusals::judge;
 use rules::Outcome;
 use rules::Verdict;
 ghost use mathlib.Core.Path.{_≡_};
 ghost use Rattle.estimate.specs.Call.{analysed};
 
 mod access;
-mod checks;
 mod contents;
 mod finish;
 mod fold;
 mod graph;
 mod join;
+mod memory;
 mod placing;
 mod run;
 mod slots;
 mod states;
-mod words;
 
 // The graph call: the finished table goes to `result`, three words a state, and `work` is used on the way.
 pub fn analyse(

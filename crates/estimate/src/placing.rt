@@ -1,6 +1,6 @@
 // States put into an ordered table, each where it belongs.
-use crate::words::load;
-use crate::words::store;
+use crate::memory::load;
+use crate::memory::store;
 use rules::State;
 ghost use mathlib.Core.Path.{_≡_};
 ghost use mathlib.Core.Bool.{true, _&&_};
@@ -9,7 +9,7 @@ ghost use Prim.Native.Nat.{_+_, _*_, _≤_, suc};
 ghost use lib.Dec.{ltb};
 ghost use lib.ListN.{length, take, drop};
 ghost use Rattle.rules.specs.Table.{order, plus as plusOf, rising, stateAt};
-ghost use Rattle.estimate.specs.Words.{tableOf};
+ghost use Rattle.words.specs.Tables.{tableOf};
 ghost use Rattle.estimate.specs.Placing.{isAfter, isSame, placeOf, Inserted, Added};
 
 // Whether `s` stands after `t`: by mask, then by misses.

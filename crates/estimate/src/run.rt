@@ -3,8 +3,8 @@ use crate::access::gather;
 use crate::contents::look_up;
 use crate::fold::fold_down;
 use crate::join::pair_up;
+use crate::memory::copy;
 use crate::states::Tally;
-use crate::words::copy;
 use rules::Units;
 ghost use mathlib.Core.Path.{_≡_};
 ghost use mathlib.Core.Bool.{true};
@@ -15,7 +15,7 @@ ghost use Rattle.rules.specs.Fold.{folded};
 ghost use Rattle.rules.specs.Join.{join};
 ghost use Rattle.rules.specs.Run.{advance as advanceOf, run as runOver};
 ghost use Rattle.rules.specs.Table.{rising};
-ghost use Rattle.estimate.specs.Words.{tableOf};
+ghost use Rattle.words.specs.Tables.{tableOf};
 ghost use Rattle.estimate.specs.Rooms.{InPlace};
 ghost use Rattle.estimate.specs.Working.{workAt, Ready};
 

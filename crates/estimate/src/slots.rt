@@ -1,6 +1,6 @@
 // The slots of the working room: a node's table, and no states behind it.
-use crate::words::load;
-use crate::words::store;
+use crate::memory::load;
+use crate::memory::store;
 use rules::State;
 use rules::Units;
 ghost use mathlib.Core.Path.{_≡_};
@@ -8,7 +8,7 @@ ghost use Prim.Native.Nat.{_+_, _-_, _*_, _≤_};
 ghost use lib.ListN.{length, take, drop, replicate};
 ghost use lib.Seq.{paste};
 ghost use Rattle.rules.specs.Table.{state};
-ghost use Rattle.estimate.specs.Words.{tableOf};
+ghost use Rattle.words.specs.Tables.{tableOf};
 ghost use Rattle.estimate.specs.Rooms.{filled};
 
 // How many states the table at place `at` has: those before the first of 0 units, of 64.

@@ -1,23 +1,14 @@
 // Two states together, and what is told of a table.
+use basics::larger;
 use rules::State;
 use rules::Units;
 ghost use mathlib.Core.Path.{_≡_};
-ghost use Prim.Native.Nat.{max};
 ghost use Rattle.rules.specs.Fold.{meet as meetOf};
 
 // How many states a table has, and the set-aside count.
 pub(crate) struct Tally {
     pub states: usize,
     pub aside: Units,
-}
-
-pub(crate) fn larger(a: u64, b: u64) -> u64
-    ensures { λ r. ⌜ r ≡ max a b ⌝ }
-{
-    if a < b {
-        return b;
-    }
-    a
 }
 
 // `units` of the shared blocks and the larger miss count.

@@ -1,8 +1,8 @@
--- Insertion into a list in an order, over any element: what stays true of every element, what is summed, how long the list gets,
+-- Which of two comes first, by two numbers; whether a list rises. Insertion into a list in an order, over any element: what stays true of every element, what is summed, how long the list gets,
 -- and that it keeps rising. Then the order of states, by mask and misses.
 use mathlib.Core.Path.{_≡_, refl, sym, _∙_}
 use mathlib.Core.Logic.{_⊎_, inl, inr}
-use mathlib.Core.Bool.{Bool, true, false, cond, true≢false}
+use mathlib.Core.Bool.{Bool, true, false, cond, _&&_, true≢false}
 use mathlib.Core.List.{List, [], _∷_}
 use Prim.Native.Nat.{ℕ, zero, suc, _+_, _≤_, _<_}
 use native.Mathlib.Omega.{arith}
@@ -15,6 +15,38 @@ use Rattle.rules.specs.Ordered.{Order, before, same, after, byNumber, th
 use Rattle.rules.specs.Table.{State, order, plus}
 use Rattle.rules.specs.Shape.{Every}
 use Rattle.rules.proofs.Lists.{every-weaker, every-remove}
+
+-- ---- by two numbers
+
+module _ (a b c d : ℕ) where
+  abbrev standsBefore : Bool
+  standsBefore = isBefore (thenBy (byNumber a c) (byNumber b d))
+
+  pub lower-first : a < c → true ≡ standsBefore
+  lower-first h = rw (lt-ltb a c h)
+
+  pub higher-first : c < a → false ≡ standsBefore
+  higher-first h = rw (le-ltb a c (omega arith), ne-eqb a c (λ s. omega arith))
+
+  pub same-first : c ≤ a → a ≤ c → ltb b d ≡ standsBefore
+  same-first h l = rw (le-ltb a c h, eq-eqb a c (omega arith)) (go (ltb b d) (eqb b d))
+    where
+      go : (l e : Bool) → l ≡ isBefore (cond l before (cond e same after))
+      go true e = refl
+      go false true = refl
+      go false false = refl
+
+-- ---- rising
+
+module _ {A : Type 0} (order : A → A → Order) where
+  -- y is the next behind x
+  pub rises-next : (x : A) {y : A} (ts : List A) {us : List A} → ts ≡ y ∷ us → rises order (x ∷ ts) ≡ (isBefore (order x y) && rises order ts)
+  rises-next x ts e = rw e
+
+  pub rises-short : (ts : List A) → length ts ≤ 1 → rises order ts ≡ true
+  rises-short [] l = refl
+  rises-short (t ∷ []) l = refl
+  rises-short (t ∷ u ∷ ts) l = absurd (omega arith)
 
 -- ---- insertion
 

@@ -2,6 +2,7 @@
 ghost use mathlib.Core.Path.{_≡_};
 ghost use Rattle.rules.specs.Units.{splitOf, addOf};
 ghost use Rattle.rules.specs.Answers.{numberOf};
+ghost use Rattle.rules.specs.Ordered.{byNumber, thenBy, isBefore};
 
 // A probability: whole units of 2^-48.
 pub struct Units(pub u64);
@@ -66,6 +67,19 @@ pub enum Order {
     Before,
     Same,
     After,
+}
+
+// Whether one with the numbers `a` and `b` stands before one with `c` and `d`: by the first, and where that is the same by the second.
+pub fn precedes(a: u64, b: u64, c: u64, d: u64) -> bool
+    ensures { λ r. ⌜ r ≡ isBefore (thenBy (byNumber a c) (byNumber b d)) ⌝ }
+{
+    if a < c {
+        return true;
+    }
+    if c < a {
+        return false;
+    }
+    b < d
 }
 
 // The places of the two states that a fold makes one: that of fewest units in the table, and its partner's among the others.

@@ -2,7 +2,7 @@
 use mathlib.Core.Path.{sym, _∙_}
 use native.Mathlib.Omega.{arith}
 use denote.Ref.{now}
-use Rattle.estimate.specs.Words.{tableOf}
+use Rattle.words.specs.Tables.{tableOf}
 use Rattle.estimate.specs.Call.{handed}
 use Rattle.estimate.proofs.Calls.{checked, checked-without, leaves-refused, leaves-finished, last-table, last-aside, finished-fits}
 use borrow.Author.Needs.{needs}

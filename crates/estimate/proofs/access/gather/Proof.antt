@@ -5,9 +5,9 @@ use Prim.Native.Nat.{_-_, _*_, _≤_}
 use native.Mathlib.Omega.{arith}
 use denote.Ref.{now}
 use lib.ListN.{length, take, drop, length-append, length-take, length-drop}
-use Rattle.estimate.specs.Words.{tableOf}
+use Rattle.words.specs.Tables.{tableOf}
 use Rattle.estimate.specs.Rooms.{InScratch}
-use Rattle.estimate.proofs.InWords.{fits-table}
+use Rattle.words.proofs.Tables.{fits-table}
 use Rattle.estimate.proofs.Scratch.{part-table, back-table, scratch-empty, scratch-added, scratch-rising, slot-reads, stretch-long}
 use Rattle.rules.proofs.Splitting.{units-added}
 use Rattle.estimate.proofs.Following.{gathered, gathered-none, gathered-rising, gathered-next, gathered-room, gathered-all, asideTo, aside-start, aside-next, aside-all, workable-at}

@@ -6,8 +6,8 @@ use denote.Ref.{now}
 use lib.ListN.{length}
 use Rattle.rules.specs.Contents.{heldBelow}
 use Rattle.estimate.specs.Placing.{Added}
-use Rattle.estimate.specs.Words.{tableOf}
-use Rattle.estimate.proofs.InWords.{fits-table}
+use Rattle.words.specs.Tables.{tableOf}
+use Rattle.words.proofs.Tables.{fits-table}
 use Rattle.estimate.proofs.Following.{added-nothing, added-then, added-rising, lostBelow, lost-next, lost-room, lost-all}
 use borrow.Author.Needs.{needs}
 use Rattle.estimate.proofs.access.lose_each.Statement.{statement}

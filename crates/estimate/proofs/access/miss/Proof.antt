@@ -3,8 +3,8 @@
 use native.Mathlib.Omega.{arith}
 use denote.Ref.{now}
 use Rattle.rules.proofs.Splitting.{split-part, split-rest}
-use Rattle.estimate.specs.Words.{tableOf}
-use Rattle.estimate.proofs.InWords.{fits-table}
+use Rattle.words.specs.Tables.{tableOf}
+use Rattle.words.proofs.Tables.{fits-table}
 use Rattle.estimate.proofs.Following.{added-rising, shares-fit, lost-count, kept-count, miss-put}
 use borrow.Author.Needs.{needs}
 use Rattle.estimate.proofs.access.miss.Statement.{statement}

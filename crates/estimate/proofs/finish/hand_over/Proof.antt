@@ -1,7 +1,7 @@
 -- `hand_over` counts the states, and carries their words into the cleared result.
 use native.Mathlib.Omega.{arith}
 use denote.Ref.{now}
-use Rattle.estimate.specs.Words.{tableOf}
+use Rattle.words.specs.Tables.{tableOf}
 use Rattle.estimate.proofs.Graphs.{counted-few}
 use Rattle.estimate.proofs.Calls.{table-long, handed-over}
 use borrow.Author.Needs.{needs}

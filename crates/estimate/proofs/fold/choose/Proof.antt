@@ -7,8 +7,8 @@ use denote.Ref.{now}
 use lib.ListN.{length, take}
 use borrow.Author.Needs.{needs}
 use Rattle.rules.specs.Ordered.{remove}
-use Rattle.estimate.specs.Words.{tableOf}
-use Rattle.estimate.proofs.InWords.{fits-table}
+use Rattle.words.specs.Tables.{tableOf}
+use Rattle.words.proofs.Tables.{fits-table}
 use Rattle.estimate.proofs.Folding.{other-within, Fewest, fewest-start, fewest-less, fewest-more, fewest-end, Nearest, partner-start, partner-closer, partner-other, choice-found}
 use Rattle.estimate.proofs.fold.choose.Statement.{statement}
 use Rattle.estimate.proofs.fold.choose.Tie as tie

@@ -8,8 +8,8 @@ use lib.ListN.{length, take}
 use borrow.Author.Needs.{needs}
 use Rattle.rules.specs.Table.{rising}
 use Rattle.rules.specs.Fold.{folded}
-use Rattle.estimate.specs.Words.{tableOf}
-use Rattle.estimate.proofs.InWords.{fits-table}
+use Rattle.words.specs.Tables.{tableOf}
+use Rattle.words.proofs.Tables.{fits-table}
 use Rattle.estimate.proofs.Folding.{workOf, folding-less, folding-rises, folding-turn, folding-end}
 use Rattle.estimate.proofs.fold.fold_down.Statement.{statement}
 use Rattle.estimate.proofs.fold.fold_down.Tie as tie

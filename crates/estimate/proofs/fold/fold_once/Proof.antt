@@ -6,8 +6,8 @@ use denote.Ref.{now}
 use lib.ListN.{length, take}
 use lib.Seq.{length-take-le}
 use borrow.Author.Needs.{needs}
-use Rattle.estimate.specs.Words.{tableOf}
-use Rattle.estimate.proofs.InWords.{fits-table}
+use Rattle.words.specs.Tables.{tableOf}
+use Rattle.words.proofs.Tables.{fits-table}
 use Rattle.estimate.proofs.Folding.{fewest-within, partner-within, rising-left, fold-stands}
 use Rattle.estimate.proofs.fold.fold_once.Statement.{statement}
 use Rattle.estimate.proofs.fold.fold_once.Tie as tie

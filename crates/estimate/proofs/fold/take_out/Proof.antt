@@ -4,8 +4,8 @@ use Prim.Native.Nat.{_-_, _≤_, _<_}
 use native.Mathlib.Omega.{arith}
 use lib.ListN.{length}
 use borrow.Author.Needs.{needs}
-use Rattle.estimate.specs.Words.{tableOf}
-use Rattle.estimate.proofs.InWords.{below-table}
+use Rattle.words.specs.Tables.{tableOf}
+use Rattle.words.proofs.Tables.{below-table}
 use Rattle.estimate.proofs.Folding.{Closing, closing-none, closing-turn, closing-end}
 use Rattle.estimate.proofs.fold.take_out.Statement.{statement}
 use Rattle.estimate.proofs.fold.take_out.Tie as tie

@@ -5,9 +5,9 @@ use Prim.Native.Nat.{_+_}
 use native.Mathlib.Omega.{arith}
 use denote.Ref.{now}
 use lib.ListN.{getD}
-use Rattle.estimate.specs.Words.{tableOf}
+use Rattle.words.specs.Tables.{tableOf}
 use Rattle.estimate.specs.Edges.{cameFrom}
-use Rattle.estimate.proofs.InWords.{fits-table}
+use Rattle.words.proofs.Tables.{fits-table}
 use Rattle.estimate.proofs.Graphs.{into-here, into-none, lower-here, counted-few, enter-none, enter-some}
 use borrow.Author.Needs.{needs}
 use Rattle.estimate.proofs.graph.enter.Statement.{statement}

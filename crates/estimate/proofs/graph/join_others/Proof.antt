@@ -8,7 +8,7 @@ use lib.ListN.{length, getD, take}
 use Rattle.rules.specs.Shape.{Every}
 use Rattle.rules.specs.Graph.{joinAll}
 use Rattle.rules.proofs.Fold.{length-folded}
-use Rattle.estimate.specs.Words.{tableOf}
+use Rattle.words.specs.Tables.{tableOf}
 use Rattle.estimate.specs.Rooms.{workedIn}
 use Rattle.estimate.specs.Edges.{cameFrom, AtEdge}
 use Rattle.estimate.specs.Working.{workAt}

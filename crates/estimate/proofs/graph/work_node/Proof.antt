@@ -3,7 +3,7 @@ use Prim.Native.Nat.{_-_, _*_}
 use native.Mathlib.Omega.{arith}
 use denote.Ref.{now}
 use lib.ListN.{length}
-use Rattle.estimate.specs.Words.{tableOf}
+use Rattle.words.specs.Tables.{tableOf}
 use Rattle.estimate.proofs.Graphs.{entered-ready, node-few, node-done}
 use borrow.Author.Needs.{needs}
 use Rattle.estimate.proofs.graph.work_node.Statement.{statement}

@@ -9,7 +9,7 @@ use lib.ListN.{length}
 use Rattle.rules.specs.Input.{inputOf, offset}
 use Rattle.rules.specs.Graph.{worked}
 use Rattle.rules.proofs.Graph.{offset-next}
-use Rattle.estimate.specs.Words.{tableOf}
+use Rattle.words.specs.Tables.{tableOf}
 use Rattle.estimate.specs.Rooms.{workedIn}
 use Rattle.estimate.proofs.Graphs.{offset-start, nodes-start, run-within, run-part, run-long, node-startable, nodes-next}
 use borrow.Author.Needs.{needs}

@@ -2,7 +2,7 @@
 use denote.Ref.{now}
 use lib.ListN.{take, drop}
 use borrow.Author.Needs.{needs}
-use Rattle.estimate.specs.Words.{tableOf}
+use Rattle.words.specs.Tables.{tableOf}
 use Rattle.estimate.proofs.Pairing.{after-all, after-some}
 use Rattle.estimate.proofs.join.after.Statement.{statement}
 use Rattle.estimate.proofs.join.after.Tie as tie

@@ -1,7 +1,7 @@
 -- `front_at` reads the state at the place; past the states there is none.
 use denote.Ref.{now}
 use borrow.Author.Needs.{needs}
-use Rattle.estimate.specs.Words.{tableOf}
+use Rattle.words.specs.Tables.{tableOf}
 use Rattle.estimate.proofs.Pairing.{front-there, front-none}
 use Rattle.estimate.proofs.join.front_at.Statement.{statement}
 use Rattle.estimate.proofs.join.front_at.Tie as tie

@@ -1,8 +1,8 @@
 -- `add` puts a state that has units.
 use native.Mathlib.Omega.{arith}
 use denote.Ref.{now}
-use Rattle.estimate.specs.Words.{tableOf}
-use Rattle.estimate.proofs.InWords.{fits-table}
+use Rattle.words.specs.Tables.{tableOf}
+use Rattle.words.proofs.Tables.{fits-table}
 use Rattle.estimate.proofs.Insertion.{added-one, added-none}
 use borrow.Author.Needs.{needs}
 use Rattle.estimate.proofs.placing.add.Statement.{statement}

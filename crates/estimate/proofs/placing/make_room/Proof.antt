@@ -4,8 +4,8 @@ use mathlib.Core.Path.{_≡_, refl}
 use Prim.Native.Nat.{_≤_}
 use native.Mathlib.Omega.{arith}
 use lib.ListN.{length}
-use Rattle.estimate.specs.Words.{tableOf}
-use Rattle.estimate.proofs.InWords.{below-table}
+use Rattle.words.specs.Tables.{tableOf}
+use Rattle.words.proofs.Tables.{below-table}
 use Rattle.estimate.proofs.Insertion.{moved, moved-none, moved-turn, moved-end}
 use borrow.Author.Needs.{needs}
 use Rattle.estimate.proofs.placing.make_room.Statement.{statement}

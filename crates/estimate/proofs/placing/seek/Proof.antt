@@ -5,8 +5,8 @@ use native.Mathlib.Omega.{arith}
 use denote.Ref.{now}
 use lib.ListN.{take}
 use mathlib.Core.Path.{_≡_}
-use Rattle.estimate.specs.Words.{tableOf}
-use Rattle.estimate.proofs.InWords.{fits-table}
+use Rattle.words.specs.Tables.{tableOf}
+use Rattle.words.proofs.Tables.{fits-table}
 use Rattle.estimate.proofs.Insertion.{Passed, Stopped, seek-start, seek-up, seek-down, seek-end}
 use borrow.Author.Needs.{needs}
 use Rattle.estimate.proofs.placing.seek.Statement.{statement}

@@ -3,7 +3,7 @@ use mathlib.Core.Path.{refl}
 use native.Mathlib.Omega.{arith}
 use denote.Ref.{now}
 use lib.ListN.{drop, length-take}
-use Rattle.estimate.specs.Words.{tableOf}
+use Rattle.words.specs.Tables.{tableOf}
 use Rattle.estimate.proofs.Settling.{joined-fits, settled-from}
 use borrow.Author.Needs.{needs}
 use Rattle.estimate.proofs.run.join_to.Statement.{statement}

@@ -5,7 +5,7 @@ use Prim.Native.Nat.{_+_, _-_, _≤_}
 use native.Mathlib.Omega.{arith}
 use denote.Ref.{now}
 use lib.ListN.{length, take}
-use Rattle.estimate.specs.Words.{tableOf}
+use Rattle.words.specs.Tables.{tableOf}
 use native.Mathlib.Numerals.{add-one}
 use Rattle.estimate.specs.Working.{workAt, Ready}
 use Rattle.estimate.proofs.Settling.{Ran, ran-next, ran-stands, stands-work, ready-wider, ready-next}

@@ -6,8 +6,8 @@ use denote.Ref.{now}
 use lib.ListN.{length, replicate}
 use lib.Seq.{paste, paste-zero}
 use Rattle.rules.specs.Table.{state}
-use Rattle.estimate.specs.Words.{tableOf}
-use Rattle.estimate.proofs.InWords.{fits-table}
+use Rattle.words.specs.Tables.{tableOf}
+use Rattle.words.proofs.Tables.{fits-table}
 use Rattle.estimate.proofs.Nodes.{seal-turn}
 use borrow.Author.Needs.{needs}
 use Rattle.estimate.proofs.slots.seal.Statement.{statement}

@@ -1,0 +1,98 @@
+-- The first states of a table in words are the table of the first words. A row that is copied state by state, 65 at most, is asked as
+-- the row itself: a row of more is no table, and its first 65 states are none either.
+use mathlib.Core.Path.{_≡_, refl, sym, ap, _∙_}
+use mathlib.Core.Bool.{Bool, true, false, cond}
+use mathlib.Core.List.{List, [], _∷_, _++_, append-nil, append-assoc}
+use Prim.Native.Nat.{ℕ, _+_, _*_, _/_, _≤_, _<_}
+use native.Mathlib.Nat.{le-of-eq}
+use native.Mathlib.Numerals.{add-one}
+use native.Mathlib.Omega.{arith}
+use borrow.Author.Tests.{leb-true, leb-false, ltb-true, ltb-false}
+use lib.Dec.{leb, ltb}
+use lib.ListN.{length, take, replicate, length-replicate}
+use lib.Seq.{length-take-le, take-all, take-at, take-suc-set}
+use Rattle.rules.specs.declared.State.{State}
+use Rattle.rules.specs.Questions.{isTable, aboveAnswer, budgetAnswer, spreadAnswer}
+use Rattle.rules.proofs.Questions.{no-table, above-refused, budget-refused, spread-refused}
+use Rattle.words.specs.Tables.{tableOf, stored}
+use Rattle.words.proofs.Tables.{length-tableOf, length-stored, table-stored, table-take}
+use Rattle.questions.specs.declared.row.Held.{Held}
+use Rattle.questions.specs.Rows.{spanOf, statesOf, nothingHeld, oneMore, moreOf, copied}
+
+-- ---- the first k states end at word e
+
+module _ (ws : List ℕ) (k e : ℕ) (ends : e ≡ spanOf (length ws) k) where
+  pub span-within : e ≡ length (take e ws)
+  span-within = go (leb (length ws / 3) k) refl
+    where
+      go : (b : Bool) → leb (length ws / 3) k ≡ b → e ≡ length (take e ws)
+      go true h = let all : e ≡ length ws = ends ∙ rw h in all ∙ sym (ap length (take-all e ws (le-of-eq (sym all))))
+      go false h =
+          let some : e ≡ k * 3 = ends ∙ rw h in
+          sym (length-take-le e ws (omega (arith, leb-false (length ws / 3) k h)))
+
+  pub span-table : tableOf (take e ws) ≡ take k (tableOf ws)
+  span-table = go (leb (length ws / 3) k) refl
+    where
+      go : (b : Bool) → leb (length ws / 3) k ≡ b → tableOf (take e ws) ≡ take k (tableOf ws)
+      go true h =
+          let all : e ≡ length ws = ends ∙ rw h in
+          ap tableOf (take-all e ws (le-of-eq (sym all))) ∙ sym (take-all k (tableOf ws) (omega (arith, length-tableOf ws, leb-true (length ws / 3) k h)))
+      go false h = let some : e ≡ k * 3 = ends ∙ rw h in rw some (table-take ws k)
+
+-- ---- a copied row
+
+-- what is held: at most 65 states, in 195 words
+pub record Holds (h : Held) : Type 0 where
+  pub few : h .states ≤ 65
+  pub room : length (h .words) ≡ 195
+
+module _ (h : Held) (ok : Holds h) where
+  held-length : length (statesOf h) ≡ h .states
+  held-length = length-take-le (h .states) (tableOf (h .words)) (omega (arith, length-tableOf (h .words), ok .few, ok .room))
+
+  one-more : (s : State) → h .states ≤ 64 → statesOf (record { states = h .states + 1; words = stored (h .words) (h .states) s }) ≡ statesOf h ++ (s ∷ [])
+  one-more s l =
+      rw (add-one (h .states), table-stored (h .words) (h .states) s)
+      (take-suc-set (tableOf (h .words)) (h .states) s (omega (arith, length-tableOf (h .words), ok .room)))
+
+more-held : (row : List State) (h : Held) → Holds h → statesOf (moreOf h row) ≡ take 65 (statesOf h ++ row)
+more-held [] h ok = sym (take-all 65 (statesOf h ++ []) (rw (append-nil (statesOf h), held-length h ok) (ok .few)) ∙ append-nil (statesOf h))
+more-held (s ∷ row) h ok = go (ltb 64 (h .states)) refl (more-held row (oneMore h s))
+  where
+    go : (b : Bool) → ltb 64 (h .states) ≡ b → (Holds (oneMore h s) → statesOf (moreOf (oneMore h s) row) ≡ take 65 (statesOf (oneMore h s) ++ row))
+        → statesOf (moreOf (oneMore h s) row) ≡ take 65 (statesOf h ++ (s ∷ row))
+    go true e ih =
+        let full : length (statesOf h) ≡ 65 = omega (arith, held-length h ok, ok .few, ltb-true 64 (h .states) e) in
+        let same : oneMore h s ≡ h = rw e in
+        ih (rw same ok) ∙ rw same (take-at (statesOf h) row 65 full ∙ sym (take-at (statesOf h) (s ∷ row) 65 full))
+    go false e ih =
+        let few : h .states ≤ 64 = ltb-false 64 (h .states) e in
+        let next : oneMore h s ≡ record { states = h .states + 1; words = stored (h .words) (h .states) s } = rw e in
+        ih (rw next (record { few = omega arith; room = length-stored (h .words) (h .states) s ∙ ok .room }))
+        ∙ rw (next, one-more h ok s few) (ap (take 65) (append-assoc (statesOf h) (s ∷ []) row))
+
+first-states : (row : List State) → statesOf (copied row) ≡ take 65 row
+first-states row = more-held row nothingHeld (record { few = omega arith; room = length-replicate {A = ℕ} 195 0 })
+
+-- ---- what is asked of it
+
+-- what is asked of rows in the same way where they are no tables is asked of a copied row as of the row
+asked-alike : {A : Type 0} (ask : List State → A) (refusal : A) → ((T : List State) → isTable T ≡ false → refusal ≡ ask T) → (row : List State)
+    → ask (statesOf (copied row)) ≡ ask row
+asked-alike ask refusal refused row = ap ask (first-states row) ∙ go (leb (length row) 65) refl
+  where
+    go : (b : Bool) → leb (length row) 65 ≡ b → ask (take 65 row) ≡ ask row
+    go true h = ap ask (take-all 65 row (leb-true (length row) 65 h))
+    go false h =
+        let long : 65 < length row = leb-false (length row) 65 h in
+        sym (refused (take 65 row) (no-table (take 65 row) (omega (arith, length-take-le 65 row (omega arith))))) ∙ refused row (no-table row (omega arith))
+
+pub above-copied : (row : List State) (B : ℕ) → aboveAnswer (statesOf (copied row)) B ≡ aboveAnswer row B
+above-copied row B = asked-alike (λ T. aboveAnswer T B) _ (λ T h. above-refused T h B) row
+
+pub budget-copied : (row : List State) (u : ℕ) → budgetAnswer (statesOf (copied row)) u ≡ budgetAnswer row u
+budget-copied row u = asked-alike (λ T. budgetAnswer T u) _ (λ T h. budget-refused T h u) row
+
+pub spread-copied : (row : List State) (room : List ℕ) → spreadAnswer (statesOf (copied row)) room ≡ spreadAnswer row room
+spread-copied row room = asked-alike (λ T. spreadAnswer T room) _ (λ T h. spread-refused T h room) row

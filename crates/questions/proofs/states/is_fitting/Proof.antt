@@ -1,0 +1,18 @@
+-- `is_fitting` meets its contract: each early return is one test of the definition that fails.
+use Rattle.questions.proofs.Fitting.{mask-large, misses-many, by-units}
+use Rattle.questions.proofs.states.is_fitting.Statement.{statement}
+use Rattle.questions.proofs.states.is_fitting.Tie as tie
+
+returns : tie.Need-returns
+returns c = mask-large (c .before .before .args .s) (c .if1 .taken)
+
+returns-2 : tie.Need-returns-2
+returns-2 c = misses-many (c .before .before .before .before .args .s) (c .before .before .if1 .left) (c .if2 .taken)
+
+returns-3 : tie.Need-returns-3
+returns-3 c =
+    let second = c .before .before in
+    by-units (second .before .before .before .before .args .s) (second .before .before .if1 .left) (second .if2 .left)
+
+pub is-fitting-spec : {M : Type 1} → statement M
+is-fitting-spec = tie.close (tie.spec returns returns-2 returns-3)

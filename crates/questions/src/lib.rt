@@ -1,0 +1,69 @@
+// Questions put to a finished table: document 01, section 4. Each is asked of a lent row of states, or of a table in words.
+use crate::answers::above_of;
+use crate::answers::budget_of;
+use crate::answers::span;
+use crate::answers::spread_of;
+use crate::row::above_held;
+use crate::row::budget_held;
+use crate::row::copy;
+use crate::row::spread_held;
+use rules::Amount;
+use rules::Count;
+use rules::State;
+ghost use mathlib.Core.Path.{_≡_};
+ghost use lib.ListN.{take};
+ghost use Rattle.rules.specs.Questions.{aboveAnswer, budgetAnswer, spreadAnswer};
+ghost use Rattle.words.specs.Tables.{tableOf};
+
+mod answers;
+mod counts;
+mod row;
+mod states;
+mod sums;
+mod table;
+
+// ---- of a lent row of states
+
+// The units above a budget: misses strictly greater.
+pub fn above(row: &[State], budget: u64) -> Amount
+    ensures { λ r. ⌜ r ≡ aboveAnswer (now (row .entry)) budget ⌝ }
+{
+    above_held(copy(row), budget)
+}
+
+// The smallest budget whose units above are at most `units`.
+pub fn smallest_budget(row: &[State], units: u64) -> Count
+    ensures { λ r. ⌜ r ≡ budgetAnswer (now (row .entry)) units ⌝ }
+{
+    budget_held(copy(row), units)
+}
+
+// The units at each miss count from 0 to the largest present, which is the answer; `room` has zeros beyond it.
+pub fn spread(row: &[State], room: &mut [u64]) -> Count
+    ensures { λ r. ⌜ record { answer = r; room = now (room .exit) } ≡ spreadAnswer (now (row .entry)) (now (room .entry)) ⌝ }
+{
+    spread_held(copy(row), room)
+}
+
+// ---- of the first `states` states of a table in words, or of all that there are: what the graph call left in its result room
+
+pub fn above_in(words: &[u64], states: usize, budget: u64) -> Amount
+    ensures { λ r. ⌜ r ≡ aboveAnswer (take states (tableOf (now (words .entry)))) budget ⌝ }
+{
+    let end = span(words.len(), states);
+    above_of(&words[..end], budget)
+}
+
+pub fn smallest_budget_in(words: &[u64], states: usize, units: u64) -> Count
+    ensures { λ r. ⌜ r ≡ budgetAnswer (take states (tableOf (now (words .entry)))) units ⌝ }
+{
+    let end = span(words.len(), states);
+    budget_of(&words[..end], units)
+}
+
+pub fn spread_in(words: &[u64], states: usize, room: &mut [u64]) -> Count
+    ensures { λ r. ⌜ record { answer = r; room = now (room .exit) } ≡ spreadAnswer (take states (tableOf (now (words .entry)))) (now (room .entry)) ⌝ }
+{
+    let end = span(words.len(), states);
+    spread_of(&words[..end], room)
+}

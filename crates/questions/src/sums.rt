@@ -1,0 +1,57 @@
+// What is asked of a table in words: the largest miss count, the units above a budget, the smallest budget.
+use crate::states::part_above;
+use basics::larger;
+use words::state_at;
+ghost use mathlib.Core.Path.{_≡_};
+ghost use Prim.Native.Nat.{_≤_};
+ghost use Rattle.rules.specs.Units.{whole};
+ghost use Rattle.rules.specs.Table.{total};
+ghost use Rattle.rules.specs.Questions.{largest as largestOf, above, smallestBudget};
+ghost use Rattle.words.specs.Tables.{tableOf};
+
+// The largest miss count present.
+pub(crate) fn largest(words: &[u64]) -> u64
+    ensures { λ r. ⌜ r ≡ largestOf (tableOf (now (words .entry))) ⌝ }
+{
+    let n = words.len() / 3;
+    let mut most: u64 = 0;
+    let mut i: usize = 0;
+    while i < n {
+        most = larger(most, state_at(words, i).misses);
+        i += 1;
+    }
+    most
+}
+
+// The units of the states with more misses than `budget`.
+pub(crate) fn units_above(words: &[u64], budget: u64) -> u64
+    requires { ⌜ total (tableOf (now words)) ≤ whole ⌝ }
+    ensures { λ r. ⌜ r ≡ above budget (tableOf (now (words .entry))) ⌝ }
+{
+    let n = words.len() / 3;
+    let mut sum: u64 = 0;
+    let mut i: usize = 0;
+    while i < n {
+        sum += part_above(state_at(words, i), budget);
+        i += 1;
+    }
+    sum
+}
+
+// The smallest budget whose units above are at most `units`: by halves, since the units above fall as the budget grows.
+pub(crate) fn smallest(words: &[u64], units: u64) -> u64
+    requires { ⌜ total (tableOf (now words)) ≤ whole ⌝ }
+    ensures { λ r. ⌜ r ≡ smallestBudget units (tableOf (now (words .entry))) ⌝ }
+{
+    let mut low: u64 = 0;
+    let mut high = largest(words);
+    while low < high {
+        let middle = low + (high - low) / 2;
+        if units_above(words, middle) <= units {
+            high = middle;
+        } else {
+            low = middle + 1;
+        }
+    }
+    low
+}

@@ -1,0 +1,113 @@
+-- `judge` meets its contract: it goes through the table of reasons in order. Behind each test it is shown that no reason so
+-- far applies; a return names the next one, which does, or none.
+use mathlib.Core.Path.{sym, ap, _∙_}
+use mathlib.Core.Bool.{not}
+use borrow.Author.Needs.{needs}
+use borrow.Author.Tests.{lt-ltb, le-ltb}
+use denote.Ref.{now}
+use Rattle.basics.proofs.Bools.{or-left, neither}
+use Rattle.rules.specs.Input.{Input}
+use Rattle.rules.specs.Refusals.{reasons}
+use Rattle.refusals.proofs.Reasons.{Passed, none-passed, one-more, refused, second-part}
+use Rattle.refusals.proofs.judge.Statement.{statement}
+use Rattle.refusals.proofs.judge.Tie as tie
+
+-- what the call is handed
+abbrev given : tie.Start → Input
+given s =
+    let a = s .args in
+    record {
+      ways = a .ways;
+      limit = a .limit;
+      tracked = now (a .tracked);
+      lengths = now (a .runs);
+      accesses = now (a .accesses);
+      edges = now (a .edges);
+      resultRoom = a .result-room;
+      workingRoom = a .working-room;
+    }
+
+-- ---- the reasons that do not apply
+
+ways-kept : (c : tie.Else1) → Passed 1 (given (c .before .before .before .before .before .before))
+unfolding reasons
+ways-kept c = one-more none-passed (sym (c .before .outside .ensures) ∙ c .if1 .left)
+
+limit-kept : (c : tie.Else2) → Passed 2 (given (c .before .before .before .before .before .before .before .before))
+unfolding reasons
+limit-kept c = one-more (ways-kept (c .before .before)) (sym (c .before .outside2 .ensures) ∙ c .if2 .left)
+
+tracked-kept : (c : tie.Else4) → Passed 3 (given (c .before .before .before .before .before .before .before .before .before .before .before))
+unfolding reasons
+tracked-kept c =
+    let f = c .before .before in
+    one-more (limit-kept (f .before)) (neither _ _ (le-ltb _ _ (f .if3 .left)) (ap not (sym (c .before .once .ensures)) ∙ c .if4 .left))
+
+accesses-kept : (c : tie.Else5) → Passed 4 (given (c .before .before .before .before .before .before .before .before .before .before .before .before))
+unfolding reasons
+accesses-kept c = one-more (tracked-kept (c .before)) (le-ltb _ _ (c .if5 .left))
+
+graph-kept : (c : tie.Else6)
+    → Passed 5 (given (c .before .before .before .before .before .before .before .before .before .before .before .before .before .before))
+unfolding reasons
+graph-kept c = one-more (accesses-kept (c .before .before)) (sym (c .before .graph-broken .ensures) ∙ c .if6 .left)
+
+-- ---- what is answered
+
+returns : tie.Need-returns
+unfolding reasons
+returns c = refused none-passed (sym (c .before .outside .ensures) ∙ c .if1 .taken)
+
+returns-2 : tie.Need-returns-2
+unfolding reasons
+returns-2 c = refused (ways-kept (c .before .before)) (sym (c .before .outside2 .ensures) ∙ c .if2 .taken)
+
+returns-3 : tie.Need-returns-3
+unfolding reasons
+returns-3 c = refused (limit-kept (c .before)) (or-left _ _ (lt-ltb _ _ (c .if3 .taken)))
+
+returns-4 : tie.Need-returns-4
+unfolding reasons
+returns-4 c =
+    let f = c .before .before in
+    refused (limit-kept (f .before)) (second-part _ _ (le-ltb _ _ (f .if3 .left)) (ap not (sym (c .before .once .ensures)) ∙ c .if4 .taken))
+
+returns-5 : tie.Need-returns-5
+unfolding reasons
+returns-5 c = refused (tracked-kept (c .before)) (lt-ltb _ _ (c .if5 .taken))
+
+returns-6 : tie.Need-returns-6
+unfolding reasons
+returns-6 c = refused (accesses-kept (c .before .before)) (sym (c .before .graph-broken .ensures) ∙ c .if6 .taken)
+
+returns-7 : tie.Need-returns-7
+unfolding reasons
+returns-7 c = refused (graph-kept (c .before)) (or-left _ _ (lt-ltb _ _ (c .if7 .taken)))
+
+returns-8 : tie.Need-returns-8
+unfolding reasons
+returns-8 c =
+    refused (graph-kept (c .before .before)) (second-part _ _ (le-ltb _ _ (c .before .if7 .left)) (lt-ltb _ _ (c .if8 .taken)))
+
+returns-9 : tie.Need-returns-9
+unfolding reasons
+returns-9 c =
+    one-more (graph-kept (c .before .before)) (neither _ _ (le-ltb _ _ (c .before .if7 .left)) (le-ltb _ _ (c .if8 .left))) .rest
+
+pub judge-spec : {M : Type 1} → statement M
+judge-spec =
+    tie.close
+    (tie.spec
+    (λ c κs. search needs)
+    returns
+    (λ c κs. search needs)
+    returns-2
+    returns-3
+    (λ c κs. search needs)
+    returns-4
+    returns-5
+    (λ c κs. search needs)
+    returns-6
+    returns-7
+    returns-8
+    returns-9)

@@ -1,0 +1,103 @@
+-- Tables in lent words: how many states there are, the state at a place, a state stored, and the table of a part.
+use mathlib.Core.Path.{_≡_, refl, ap, _∙_}
+use mathlib.Core.List.{List, [], _∷_, _++_, append-nil}
+use Prim.Native.Nat.{ℕ, zero, suc, _+_, _*_, _/_, _≤_, _<_}
+use native.Mathlib.Omega.{arith}
+use lib.ListN.{length, getD, set, take, drop, replicate, length-set}
+use lib.Seq.{drop-length}
+use Rattle.rules.specs.declared.State.{State}
+use Rattle.basics.proofs.Lists.{list-next, list-end}
+use Rattle.rules.specs.Table.{state, stateAt}
+use Rattle.words.specs.Tables.{tableOf, stored}
+
+-- the state at place i of a list of words
+abbrev pub rowOf : List ℕ → ℕ → State
+rowOf ws i = record { mask = getD ws (i * 3) 0; misses = getD ws (i * 3 + 1) 0; units = record { 0 = getD ws (i * 3 + 2) 0 } }
+
+-- one place further is three words further
+pub third : (i : ℕ) → suc i * 3 ≡ suc (suc (suc (i * 3)))
+third i = omega arith
+
+third-1 : (i : ℕ) → suc i * 3 + 1 ≡ suc (suc (suc (i * 3 + 1)))
+third-1 i = omega arith
+
+third-2 : (i : ℕ) → suc i * 3 + 2 ≡ suc (suc (suc (i * 3 + 2)))
+third-2 i = omega arith
+
+pub length-tableOf : (ws : List ℕ) → length (tableOf ws) ≡ length ws / 3
+unfolding tableOf
+length-tableOf [] = refl
+length-tableOf (a ∷ []) = refl
+length-tableOf (a ∷ b ∷ []) = refl
+length-tableOf (a ∷ b ∷ c ∷ ws) = omega (arith, length-tableOf ws)
+
+pub row-at : (ws : List ℕ) (i : ℕ) (d : State) → i * 3 + 3 ≤ length ws → getD (tableOf ws) i d ≡ rowOf ws i
+unfolding tableOf
+row-at [] i d h = absurd (omega arith)
+row-at (a ∷ []) i d h = absurd (omega arith)
+row-at (a ∷ b ∷ []) i d h = absurd (omega arith)
+row-at (a ∷ b ∷ c ∷ ws) zero d h = refl
+row-at (a ∷ b ∷ c ∷ ws) (suc i) d h = rw (third-1, third-2, third) (row-at ws i d (omega arith))
+
+pub length-stored : (ws : List ℕ) (i : ℕ) (s : State) → length (stored ws i s) ≡ length ws
+length-stored ws i s = rw (length-set, length-set, length-set)
+
+pub table-stored : (ws : List ℕ) (i : ℕ) (s : State) → tableOf (stored ws i s) ≡ set (tableOf ws) i s
+unfolding tableOf
+table-stored [] zero s = refl
+table-stored [] (suc i) s = refl
+table-stored (a ∷ []) zero s = refl
+table-stored (a ∷ []) (suc i) s = rw (third-1, third-2, third) refl
+table-stored (a ∷ b ∷ []) zero s = refl
+table-stored (a ∷ b ∷ []) (suc i) s = rw (third-1, third-2, third) refl
+table-stored (a ∷ b ∷ c ∷ ws) zero s = refl
+table-stored (a ∷ b ∷ c ∷ ws) (suc i) s =
+    rw (third-1, third-2, third) (ap (λ (t : List State). state a b c ∷ t) (table-stored ws i s))
+
+pub table-take : (ws : List ℕ) (k : ℕ) → tableOf (take (k * 3) ws) ≡ take k (tableOf ws)
+unfolding tableOf
+table-take ws zero = refl
+table-take [] (suc k) = rw third refl
+table-take (a ∷ []) (suc k) = rw third refl
+table-take (a ∷ b ∷ []) (suc k) = rw third refl
+table-take (a ∷ b ∷ c ∷ ws) (suc k) =
+    rw third (ap (λ (t : List State). state a b c ∷ t) (table-take ws k))
+
+pub table-drop : (ws : List ℕ) (k : ℕ) → tableOf (drop (k * 3) ws) ≡ drop k (tableOf ws)
+unfolding tableOf
+table-drop ws zero = refl
+table-drop [] (suc k) = rw third refl
+table-drop (a ∷ []) (suc k) = rw third refl
+table-drop (a ∷ b ∷ []) (suc k) = rw third refl
+table-drop (a ∷ b ∷ c ∷ ws) (suc k) = rw third (table-drop ws k)
+
+pub table-append : (ws vs : List ℕ) (k : ℕ) → length ws ≡ k * 3 → tableOf (ws ++ vs) ≡ tableOf ws ++ tableOf vs
+unfolding tableOf
+table-append [] vs k h = refl
+table-append (a ∷ []) vs k h = absurd (omega arith)
+table-append (a ∷ b ∷ []) vs k h = absurd (omega arith)
+table-append (a ∷ b ∷ c ∷ ws) vs zero h = absurd (omega arith)
+table-append (a ∷ b ∷ c ∷ ws) vs (suc k) h =
+    ap (λ (t : List State). state a b c ∷ t) (table-append ws vs k (omega arith))
+
+-- n states in n * 3 words
+pub fits-table : (ws : List ℕ) (n : ℕ) → n * 3 ≤ length ws → n ≤ length (tableOf ws)
+fits-table ws n h = omega (arith, length-tableOf ws)
+
+pub below-table : (ws : List ℕ) (n : ℕ) → n * 3 + 3 ≤ length ws → n < length (tableOf ws)
+below-table ws n h = omega (arith, length-tableOf ws)
+
+-- ---- through the states from the front
+
+module _ {A : Type 0} (f : List State → A) (ws : List ℕ) (i : ℕ) (w : A) (rest : f (drop i (tableOf ws)) ≡ w) where
+  pub state-next : i < length ws / 3 → f (stateAt (tableOf ws) i ∷ drop (i + 1) (tableOf ws)) ≡ w
+  state-next h = list-next f (tableOf ws) i w rest (state 0 0 0) (omega (arith, length-tableOf ws))
+
+  pub state-end : length ws / 3 ≤ i → f [] ≡ w
+  state-end h = list-end f (tableOf ws) i w rest (omega (arith, length-tableOf ws))
+
+-- ---- zeros
+
+-- zeros up to the end are all there is
+pub all-filled : (xs ws : List ℕ) (i : ℕ) → i ≡ length xs → ws ≡ replicate i 0 ++ drop i xs → ws ≡ replicate (length xs) 0
+all-filled xs ws i e p = p ∙ rw (e, drop-length xs, append-nil)

@@ -1,0 +1,2 @@
+-- Tables in lent words
+pub mod Tables
