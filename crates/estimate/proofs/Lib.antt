@@ -18,3 +18,5 @@ pub mod Settling
 pub mod Graphs
 -- What a call leaves
 pub mod Calls
+-- and that it can be asked
+pub mod Finished

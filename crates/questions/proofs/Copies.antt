@@ -7,7 +7,7 @@ use Prim.Native.Nat.{ℕ, _+_, _*_, _/_, _≤_, _<_}
 use native.Mathlib.Nat.{le-of-eq}
 use native.Mathlib.Numerals.{add-one}
 use native.Mathlib.Omega.{arith}
-use borrow.Author.Tests.{leb-true, leb-false, ltb-true, ltb-false}
+use borrow.Author.Tests.{leb-true, leb-false, ltb-true, ltb-false, lt-ltb, le-ltb}
 use lib.Dec.{leb, ltb}
 use lib.ListN.{length, take, replicate, length-replicate}
 use lib.Seq.{length-take-le, take-all, take-at, take-suc-set}
@@ -42,6 +42,14 @@ module _ (ws : List ℕ) (k e : ℕ) (ends : e ≡ spanOf (length ws) k) where
 
 -- ---- a copied row
 
+-- one state more: there is no room, or there is
+module _ (h : Held) (s : State) where
+  pub no-room : 64 < h .states → h ≡ oneMore h s
+  no-room l = rw (lt-ltb 64 (h .states) l)
+
+  pub more-room : h .states ≤ 64 → record { states = h .states + 1; words = stored (h .words) (h .states) s } ≡ oneMore h s
+  more-room l = rw (le-ltb 64 (h .states) l)
+
 -- what is held: at most 65 states, in 195 words
 pub record Holds (h : Held) : Type 0 where
   pub few : h .states ≤ 65
@@ -64,11 +72,11 @@ more-held (s ∷ row) h ok = go (ltb 64 (h .states)) refl (more-held row (oneMor
         → statesOf (moreOf (oneMore h s) row) ≡ take 65 (statesOf h ++ (s ∷ row))
     go true e ih =
         let full : length (statesOf h) ≡ 65 = omega (arith, held-length h ok, ok .few, ltb-true 64 (h .states) e) in
-        let same : oneMore h s ≡ h = rw e in
+        let same : oneMore h s ≡ h = sym (no-room h s (ltb-true 64 (h .states) e)) in
         ih (rw same ok) ∙ rw same (take-at (statesOf h) row 65 full ∙ sym (take-at (statesOf h) (s ∷ row) 65 full))
     go false e ih =
         let few : h .states ≤ 64 = ltb-false 64 (h .states) e in
-        let next : oneMore h s ≡ record { states = h .states + 1; words = stored (h .words) (h .states) s } = rw e in
+        let next : oneMore h s ≡ record { states = h .states + 1; words = stored (h .words) (h .states) s } = sym (more-room h s few) in
         ih (rw next (record { few = omega arith; room = length-stored (h .words) (h .states) s ∙ ok .room }))
         ∙ rw (next, one-more h ok s few) (ap (take 65) (append-assoc (statesOf h) (s ∷ []) row))
 

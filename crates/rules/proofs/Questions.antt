@@ -43,8 +43,14 @@ pub above-largest : (B : ℕ) (T : List State) → largest T ≤ B → above B T
 unfolding above largest
 above-largest B [] l = refl
 above-largest B (s ∷ T) l =
-    rw (le-ltb B (s .misses) (le-trans (le-max-left (s .misses) (largest T)) l))
-    (omega (arith, above-largest B T (le-trans (le-max-right (s .misses) (largest T)) l)))
+    omega (
+      arith,
+      none (le-trans (le-max-left (s .misses) (largest T)) l),
+      above-largest B T (le-trans (le-max-right (s .misses) (largest T)) l),
+    )
+  where
+    none : s .misses ≤ B → cond (ltb B (s .misses)) (unitsOf s) 0 ≡ 0
+    none h = rw (le-ltb B (s .misses) h)
 
 pub above-most : (B : ℕ) (T : List State) → above B T ≤ total T
 unfolding above total

@@ -25,7 +25,7 @@ use Rattle.rules.proofs.Ordered.{InOrder, in-order-rises, rises-in-orde
 
 -- ---- no reason applies
 
-numbered : (r : Refusal) → numberOf r ≢ 0
+pub numbered : (r : Refusal) → numberOf r ≢ 0
 numbered Text e = omega arith
 numbered Ways e = omega arith
 numbered Limit e = omega arith

@@ -149,7 +149,9 @@ module _ (N : ℕ) (x : Place) (some : 0 < N) where
         → N * worth f (access N x T) + sumOver (λ s. leftOver N x s * aheadOf N x f s) T
         ≡ worth (ahead N x f) T + N * sumOver (λ s. leftOver N x s * alone N x f s) T
     unfolding access
-    worth-access f = rw (worth-add f (flatMap (successors N x) T) [] room-to-add) (omega (arith, worth-all N x f T))
+    worth-access f =
+        let added : worth f (access N x T) ≡ worth f (flatMap (successors N x) T) + worth f [] = worth-add f (flatMap (successors N x) T) [] room-to-add in
+        omega (arith, ap (N *_) added, worth-all N x f T)
 
     pub access-total : total (access N x T) ≡ total T
     unfolding access total

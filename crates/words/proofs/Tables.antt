@@ -4,11 +4,11 @@ use mathlib.Core.List.{List, [], _∷_, _++_, append-nil}
 use Prim.Native.Nat.{ℕ, zero, suc, _+_, _*_, _/_, _≤_, _<_}
 use native.Mathlib.Omega.{arith}
 use lib.ListN.{length, getD, set, take, drop, replicate, length-set}
-use lib.Seq.{drop-length}
+use lib.Seq.{drop-length, take-at}
 use Rattle.rules.specs.declared.State.{State}
 use Rattle.basics.proofs.Lists.{list-next, list-end}
 use Rattle.rules.specs.Table.{state, stateAt}
-use Rattle.words.specs.Tables.{tableOf, stored}
+use Rattle.words.specs.Tables.{tableOf, wordsOf, stored}
 
 -- the state at place i of a list of words
 abbrev pub rowOf : List ℕ → ℕ → State
@@ -79,6 +79,22 @@ table-append (a ∷ b ∷ []) vs k h = absurd (omega arith)
 table-append (a ∷ b ∷ c ∷ ws) vs zero h = absurd (omega arith)
 table-append (a ∷ b ∷ c ∷ ws) vs (suc k) h =
     ap (λ (t : List State). state a b c ∷ t) (table-append ws vs k (omega arith))
+
+-- the words of a table, read back
+length-words : (T : List State) → length (wordsOf T) ≡ length T * 3
+unfolding wordsOf
+length-words [] = refl
+length-words (s ∷ T) = omega (arith, length-words T)
+
+table-words : (T : List State) → tableOf (wordsOf T) ≡ T
+unfolding tableOf wordsOf
+table-words [] = refl
+table-words (s ∷ T) = ap (λ (t : List State). s ∷ t) (table-words T)
+
+pub words-first : (T : List State) (vs : List ℕ) → take (length T) (tableOf (wordsOf T ++ vs)) ≡ T
+words-first T vs =
+    ap (take (length T)) (table-append (wordsOf T) vs (length T) (length-words T) ∙ ap (λ (t : List State). t ++ tableOf vs) (table-words T))
+    ∙ take-at T (tableOf vs) (length T) refl
 
 -- n states in n * 3 words
 pub fits-table : (ws : List ℕ) (n : ℕ) → n * 3 ≤ length ws → n ≤ length (tableOf ws)

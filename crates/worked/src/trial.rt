@@ -1,4 +1,5 @@
 // One call of the graph call, and what it has to answer.
+use crate::asked::ask_case;
 use crate::numbers::say;
 use crate::numbers::say_states;
 use crate::report::Report;
@@ -56,7 +57,24 @@ fn compare_refusal(got: Got, result: &[u64], work: &[u64], refusal: u64, report:
         .compared(is_marked(work))
 }
 
-// A worked case in these rooms: the states that it got are written.
+// After a worked case: the states that it got are written, and every question is put to them.
+fn compare_case(
+    name: &[u8],
+    got: Got,
+    result: &[u64],
+    work: &[u64],
+    states: &[u64],
+    aside: u64,
+    report: Report,
+) -> Report {
+    io::write_all(1, name);
+    say_states(result, got.states);
+    say(b" aside ", got.aside);
+    let asked = ask_case(name, result, got.states, states, report);
+    compare_table(got, result, work, states, aside, asked)
+}
+
+// A worked case in these rooms.
 fn case_in(
     name: &[u8],
     ways: u32,
@@ -74,10 +92,7 @@ fn case_in(
     mark(result);
     mark(work);
     let got = got_of(analyse(ways, limit, tracked, runs, accesses, edges, result, work));
-    io::write_all(1, name);
-    say_states(result, got.states);
-    say(b" aside ", got.aside);
-    compare_table(got, result, work, states, aside, report)
+    compare_case(name, got, result, work, states, aside, report)
 }
 
 // A worked case in rooms that are longer than they have to be.
@@ -125,9 +140,9 @@ pub(crate) fn enough() -> Rooms {
     }
 }
 
-// What the call answered, in words.
-fn say_answer(name: &[u8], refusal: u64) {
-    io::write_all(1, b"refusals: ");
+// What a call answered, in words.
+pub(crate) fn say_answer(part: &[u8], name: &[u8], refusal: u64) {
+    io::write_all(1, part);
     io::write_all(1, name);
     if refusal == 0 {
         io::write_all(1, b" passes\n");
@@ -155,7 +170,7 @@ fn answer_in(
     mark(result);
     mark(work);
     let got = got_of(analyse(ways, limit, tracked, runs, accesses, edges, result, work));
-    say_answer(name, got.refusal);
+    say_answer(b"refusals: ", name, got.refusal);
     if refusal == 0 {
         return compare_table(got, result, work, states, 0, report);
     }

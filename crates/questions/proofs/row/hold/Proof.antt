@@ -1,14 +1,14 @@
 -- `hold` meets its contract: the test is the definition's, and the three words of the state lie within the 195.
 use borrow.Author.Needs.{needs}
-use borrow.Author.Tests.{lt-ltb, le-ltb}
+use Rattle.questions.proofs.Copies.{no-room, more-room}
 use Rattle.questions.proofs.row.hold.Statement.{statement}
 use Rattle.questions.proofs.row.hold.Tie as tie
 
 returns : tie.Need-returns
-returns c = rw (lt-ltb _ _ (c .if1 .taken))
+returns c = no-room (c .before .args .held) (c .before .args .s) (c .if1 .taken)
 
 returns-2 : tie.Need-returns-2
-returns-2 c = rw (le-ltb _ _ (c .before .before .if1 .left))
+returns-2 c = let a = c .before .before .before .args in more-room (a .held) (a .s) (c .before .before .if1 .left)
 
 pub hold-spec : {M : Type 1} → statement M
 hold-spec =

@@ -1,0 +1,53 @@
+-- What an accepted call leaves can be asked: the first states of the result room, as many as the answer says, are the finished table, which is
+-- a table by section 4, so that no question refuses it.
+use mathlib.Core.Path.{_≡_, refl}
+use mathlib.Core.Bool.{true}
+use mathlib.Core.List.{List}
+use Prim.Native.Nat.{ℕ, _-_, _*_}
+use lib.ListN.{length, take, replicate}
+use Rattle.rules.specs.declared.Verdict.{Verdict}
+use Rattle.rules.specs.declared.Verdict.the-variants.{Accepted, Refused}
+use Rattle.rules.specs.Answers.{OutcomeSays, outcomeSays}
+use Rattle.rules.specs.Input.{Input}
+use Rattle.rules.specs.Graph.{finished}
+use Rattle.rules.specs.Questions.{isTable}
+use Rattle.rules.specs.Refusals.{verdict, answered, outcome}
+use Rattle.rules.proofs.Refusals.{numbered}
+use Rattle.rules.proofs.Questions.{finished-is-table}
+use Rattle.words.specs.Tables.{tableOf}
+use Rattle.words.proofs.Tables.{words-first}
+use Rattle.estimate.specs.Call.{After, leaves, handed, analysed}
+
+module _ (i : Input) (rs ws : List ℕ) where
+  leaves-outcome : (v : Verdict) → leaves v i rs ws .answer ≡ outcome i
+  leaves-outcome Accepted = refl
+  leaves-outcome (Refused r) = refl
+
+  leaves-finished : outcomeSays (outcome i) .number ≡ 0
+      → take (outcomeSays (outcome i) .states) (tableOf (leaves (verdict i) i rs ws .result)) ≡ finished i .table
+  unfolding outcome
+  leaves-finished h = go (verdict i) h
+    where
+      go : (v : Verdict) → outcomeSays (answered v i) .number ≡ 0 → take (outcomeSays (answered v i) .states) (tableOf (leaves v i rs ws .result)) ≡ finished i .table
+      go Accepted h = words-first (finished i .table) (replicate (length rs - length (finished i .table) * 3) 0)
+      go (Refused r) h = absurd (numbered r h)
+
+module _ (N K : ℕ) (ts ns bs es rs ws : List ℕ) where
+  -- what the call leaves, and what its answer says
+  abbrev left : After
+  left = analysed N K ts ns bs es rs ws
+
+  abbrev said : OutcomeSays
+  said = outcomeSays (left .answer)
+
+  pub result-finished : said .number ≡ 0 → take (said .states) (tableOf (left .result)) ≡ finished (handed N K ts ns bs es rs ws) .table
+  unfolding analysed
+  result-finished h =
+      let i = handed N K ts ns bs es rs ws in
+      rw (leaves-outcome i rs ws (verdict i)) (leaves-finished i rs ws (rw (leaves-outcome i rs ws (verdict i)) at h))
+
+  pub result-is-table : said .number ≡ 0 → isTable (take (said .states) (tableOf (left .result))) ≡ true
+  unfolding analysed
+  result-is-table h =
+      let i = handed N K ts ns bs es rs ws in
+      rw (result-finished h) (finished-is-table i (rw (leaves-outcome i rs ws (verdict i)) at h))

@@ -1,0 +1,15 @@
+-- `units_between` is safe and ends: each turn passes one state, and a state's three words lie within the states. Assumes nothing.
+use Prim.Native.Nat.{_≤_, _*_, _-_}
+use lib.ListN.{length}
+use borrow.Author.Needs.{needs}
+use Rattle.worked.proofs.expected.units_between.Statement.{statement}
+use Rattle.worked.proofs.expected.units_between.Tie as tie
+
+abbrev Inv-loop : tie.InvT-loop
+Inv-loop states low high n units₀ i₀ units i = (i ≤ n) × (n * 3 ≤ length states)
+
+abbrev μ-loop : tie.MeasureT-loop
+μ-loop states low high n units₀ i₀ units i = n - i
+
+pub units-between-spec : {M : Type 1} → statement M
+units-between-spec = tie.close (tie.spec Inv-loop μ-loop (λ c. search needs) (λ c. search needs) (λ c. search needs) (λ c. search needs) (λ c. search needs) (λ c. search needs) (λ c. search needs) (λ c. search needs) (λ c. search needs) (λ c κs. search needs) (λ c κs. search needs) (λ c. search needs) (λ c. search needs) (λ c. search needs) (λ c. search needs))

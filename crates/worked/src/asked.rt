@@ -1,0 +1,195 @@
+// The questions put to a table that the graph call left in its result room; and what has to be answered, from the document's states.
+use crate::expected::MOST;
+use crate::expected::first_budget;
+use crate::expected::has_counts;
+use crate::expected::last_count;
+use crate::expected::units_above;
+use crate::numbers::HALF;
+use crate::numbers::WHOLE;
+use crate::report::Report;
+use crate::rooms::is_marked;
+use crate::rooms::mark;
+use crate::said::amount_said;
+use crate::said::count_said;
+use questions::above_in;
+use questions::smallest_budget_in;
+use questions::spread_in;
+
+// One in 10^9, in units, rounded down.
+const RARE: u64 = 281474;
+
+// The spread into `room`.
+pub(crate) fn spread(
+    result: &[u64],
+    n: usize,
+    room: &mut [u64],
+    states: &[u64],
+    report: Report,
+) -> Report {
+    mark(room);
+    let said = count_said(spread_in(result, n, room));
+    let passed = report.compared(said.refusal == 0);
+    passed
+        .compared(said.value == last_count(states))
+        .compared(has_counts(room, states))
+}
+
+// The spread is refused with `refusal`, and the room is as it was.
+pub(crate) fn no_spread(
+    result: &[u64],
+    n: usize,
+    room: &mut [u64],
+    refusal: u64,
+    report: Report,
+) -> Report {
+    mark(room);
+    let said = count_said(spread_in(result, n, room));
+    report
+        .compared(said.refusal == refusal)
+        .compared(is_marked(room))
+}
+
+// The units above one budget.
+pub(crate) fn above(
+    result: &[u64],
+    n: usize,
+    budget: u64,
+    states: &[u64],
+    report: Report,
+) -> Report {
+    let said = amount_said(above_in(result, n, budget));
+    let passed = report.compared(said.refusal == 0);
+    passed.compared(said.value == units_above(states, budget))
+}
+
+// The smallest budget for one number of units.
+pub(crate) fn budget(
+    result: &[u64],
+    n: usize,
+    units: u64,
+    states: &[u64],
+    report: Report,
+) -> Report {
+    let said = count_said(smallest_budget_in(result, n, units));
+    let passed = report.compared(said.refusal == 0);
+    passed.compared(said.value == first_budget(states, units, last_count(states)))
+}
+
+// Each budget below `end`, and for the units above it, and one unit less, the smallest budget.
+fn each_budget(result: &[u64], n: usize, end: u64, states: &[u64], report: Report) -> Report {
+    let mut all = report;
+    let mut b: u64 = 0;
+    while b < end {
+        let units = units_above(states, b);
+        let found = above(result, n, b, states, all);
+        let served = budget(result, n, units, states, found);
+        all = budget(result, n, one_less(units), states, served);
+        b += 1;
+    }
+    all
+}
+
+fn one_less(n: u64) -> u64 {
+    if n == 0 {
+        return 0;
+    }
+    n - 1
+}
+
+// Every question that can be put to the table of these states, in a room of exactly the length that is needed, one shorter, and longer.
+pub(crate) fn every_question(
+    result: &[u64],
+    n: usize,
+    room: &mut [u64],
+    states: &[u64],
+    report: Report,
+) -> Report {
+    let last = last_count(states);
+    if 4096 < last {
+        return report.compared(false);
+    }
+    let end = (last + 1) as usize;
+    if room.len() <= end {
+        return report.compared(false);
+    }
+    let long = spread(result, n, room, states, report);
+    let exact = spread(result, n, &mut room[0..end], states, long);
+    let short = no_spread(result, n, &mut room[0..end - 1], 8, exact);
+    let budgets = each_budget(result, n, last + 2, states, short);
+    above(
+        result,
+        n,
+        MOST,
+        states,
+        budget(result, n, MOST, states, budgets),
+    )
+}
+
+// The answers, in three lines.
+fn say_budget(result: &[u64], n: usize, units: u64) {
+    io::write_all(1, b" ");
+    io::print_decimal(1, count_said(smallest_budget_in(result, n, units)).value);
+}
+
+fn say_budgets(name: &[u8], result: &[u64], n: usize) {
+    io::write_all(1, name);
+    io::write_all(1, b" budgets");
+    say_budget(result, n, 0);
+    say_budget(result, n, RARE);
+    say_budget(result, n, HALF);
+    say_budget(result, n, WHOLE - 1);
+    say_budget(result, n, WHOLE);
+    io::write_all(1, b"\n");
+}
+
+fn say_units_above(result: &[u64], n: usize, budget: u64) {
+    io::write_all(1, b" ");
+    io::print_decimal(1, amount_said(above_in(result, n, budget)).value);
+}
+
+fn say_above(name: &[u8], result: &[u64], n: usize, last: u64) {
+    io::write_all(1, name);
+    io::write_all(1, b" above");
+    let mut b: u64 = 0;
+    while b < last {
+        say_units_above(result, n, b);
+        b += 1;
+    }
+    say_units_above(result, n, last);
+    io::write_all(1, b"\n");
+}
+
+fn say_spread(name: &[u8], room: &[u64], last: u64) {
+    io::write_all(1, name);
+    io::write_all(1, b" spread");
+    let mut i: usize = 0;
+    while i < room.len() {
+        if i as u64 <= last {
+            io::write_all(1, b" ");
+            io::print_decimal(1, room[i]);
+        }
+        i += 1;
+    }
+    io::write_all(1, b"\n");
+}
+
+fn say_answers(name: &[u8], result: &[u64], n: usize) {
+    let mut room: [u64; 4097] = [0; 4097];
+    let last = count_said(spread_in(result, n, &mut room)).value;
+    say_spread(name, &room, last);
+    say_above(name, result, n, last);
+    say_budgets(name, result, n);
+}
+
+// A worked case: its answers are written, and every question is compared.
+pub(crate) fn ask_case(
+    name: &[u8],
+    result: &[u64],
+    n: usize,
+    states: &[u64],
+    report: Report,
+) -> Report {
+    say_answers(name, result, n);
+    let mut room: [u64; 10] = [0; 10];
+    every_question(result, n, &mut room, states, report)
+}

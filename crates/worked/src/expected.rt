@@ -1,0 +1,72 @@
+// What has to be answered about some states, three words each: worked out here, with nothing of the questions' own code.
+
+// The largest number: it stands for a sum that does not fit.
+pub(crate) const MOST: u64 = 18446744073709551615;
+
+fn plus(a: u64, b: u64) -> u64 {
+    if MOST - a < b {
+        return MOST;
+    }
+    a + b
+}
+
+// `units` where `low` <= `misses` <= `high`.
+fn part(misses: u64, units: u64, low: u64, high: u64) -> u64 {
+    if misses < low {
+        return 0;
+    }
+    if high < misses {
+        return 0;
+    }
+    units
+}
+
+// The units of the states with `low` to `high` misses.
+pub(crate) fn units_between(states: &[u64], low: u64, high: u64) -> u64 {
+    let n = states.len() / 3;
+    let mut units: u64 = 0;
+    let mut i: usize = 0;
+    while i < n {
+        units = plus(units, part(states[i * 3 + 1], states[i * 3 + 2], low, high));
+        i += 1;
+    }
+    units
+}
+
+// The units of the states with more misses than `budget`.
+pub(crate) fn units_above(states: &[u64], budget: u64) -> u64 {
+    if budget == MOST {
+        return 0;
+    }
+    units_between(states, budget + 1, MOST)
+}
+
+// The first budget up to `last` that leaves at most `units` above.
+pub(crate) fn first_budget(states: &[u64], units: u64, last: u64) -> u64 {
+    let mut budget: u64 = 0;
+    while budget < last {
+        if units_above(states, budget) <= units {
+            return budget;
+        }
+        budget += 1;
+    }
+    budget
+}
+
+// The largest miss count, where it is at most 4,096.
+pub(crate) fn last_count(states: &[u64]) -> u64 {
+    first_budget(states, 0, 4096)
+}
+
+// Whether each place of the room has the units of that miss count.
+pub(crate) fn has_counts(room: &[u64], states: &[u64]) -> bool {
+    let mut i: usize = 0;
+    while i < room.len() {
+        let misses = i as u64;
+        if room[i] != units_between(states, misses, misses) {
+            return false;
+        }
+        i += 1;
+    }
+    true
+}
