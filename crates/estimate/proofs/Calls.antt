@@ -1,7 +1,7 @@
 -- What a call leaves: the last slot's table as words with zeros behind them, and the answer that goes with it.
 use mathlib.Core.Path.{_≡_, refl, sym, ap, ap₂, _∙_}
 use mathlib.Core.List.{List, [], _∷_, _++_}
-use Prim.Native.Nat.{ℕ, zero, suc, _+_, _-_, _*_, _≤_, _<_}
+use Prim.Native.Nat.{ℕ, zero, suc, _+_, _-_, _*_, _/_, _≤_, _<_}
 use native.Mathlib.Nat.{le-refl, zero-add}
 use native.Mathlib.Numerals.{add-one}
 use native.Mathlib.Omega.{arith}
@@ -13,10 +13,11 @@ use Rattle.rules.specs.declared.Verdict.{Verdict}
 use Rattle.rules.specs.declared.Verdict.the-variants.{Accepted, Refused}
 use Rattle.rules.specs.declared.Outcome.the-variants.{Finished, Refused as RefusedOutcome}
 use Rattle.rules.specs.Units.{units}
-use Rattle.rules.specs.Input.{Input, inputOf, nodes, runOf}
-use Rattle.rules.specs.Graph.{Worked, tableAt, node, worked, finished}
+use Rattle.rules.specs.Input.{Input, inputOf, nodes}
+use Rattle.rules.specs.Graph.{Worked, tableAt, worked, finished}
 use Rattle.rules.specs.Refusals.{verdict, outcome}
 use Rattle.rules.proofs.Refusals.{Checked, accepted}
+use Rattle.rules.proofs.Rooms.{same-worked}
 use Rattle.rules.proofs.Graph.{finished-table, node-table}
 use Rattle.words.specs.Tables.{tableOf, wordsOf}
 use Rattle.estimate.specs.Rooms.{filled, slotOf, tableIn, workedIn}
@@ -68,16 +69,9 @@ module _ (last m : ℕ) (ws : List ℕ) (l : last < 64) (long : 15552 ≤ length
       (words-there ws (last * 64) m (omega (arith, counted-few last m (tableOf ws) count)) ∙ ap wordsOf (counted last m (tableOf ws) count))
       (ap₂ (λ (k : ℕ) (W : List ℕ). drop k W) (zero-add (m * 3)) z ∙ zeros-rest (length rs) (m * 3) room ∙ ap (λ (k : ℕ). replicate (length rs - k * 3) 0) table-long)
 
--- ---- the work does not look at the rooms
+-- ---- what the work needs does not depend on the rooms
 
 module _ (N K : ℕ) (ts ns bs es : List ℕ) (rs ws : List ℕ) where
-  same-worked : (n : ℕ) → worked (inputOf N K ts ns bs es) n ≡ worked (handed N K ts ns bs es rs ws) n
-  unfolding worked node runOf
-  same-worked zero = refl
-  same-worked (suc n) =
-      ap (λ (d : Worked). let w = node (handed N K ts ns bs es rs ws) n d in record { tables = d .tables ++ (w .table ∷ []); aside = w .aside }) (same-worked n)
-
-  -- nor does what it needs
   pub checked-without : Checked (handed N K ts ns bs es rs ws) → Checked (inputOf N K ts ns bs es)
   checked-without ok =
       record {
@@ -121,11 +115,11 @@ module _ (N K : ℕ) (ts ns bs es rs ws : List ℕ) (a : ℕ) (T : List State) (
   unfolding finished
   last-table =
       sym (tablesIn-at (length ns) T (length ns - 1) (omega arith))
-      ∙ ap (λ (d : Worked). tableAt d (length ns - 1)) (done ∙ same-worked N K ts ns bs es rs ws (length ns))
+      ∙ ap (λ (d : Worked). tableAt d (length ns - 1)) (done ∙ same-worked N K ts ns bs es (length rs / 3) (length ws / 3) (length ns))
 
   pub last-aside : a ≡ finished (handed N K ts ns bs es rs ws) .aside
   unfolding finished
-  last-aside = ap (λ (d : Worked). d .aside) (done ∙ same-worked N K ts ns bs es rs ws (length ns))
+  last-aside = ap (λ (d : Worked). d .aside) (done ∙ same-worked N K ts ns bs es (length rs / 3) (length ws / 3) (length ns))
 
 -- which the result room has room for
 pub finished-fits : (i : Input) → Checked i → length (finished i .table) ≤ i .limit

@@ -1,18 +1,22 @@
 -- What an accepted call leaves can be asked: the first states of the result room, as many as the answer says, are the finished table, which is
 -- a table by section 4, so that no question refuses it.
-use mathlib.Core.Path.{_≡_, refl}
+use mathlib.Core.Path.{_≡_, refl, sym, ap, _∙_}
 use mathlib.Core.Bool.{true}
 use mathlib.Core.List.{List}
-use Prim.Native.Nat.{ℕ, _-_, _*_}
+use Prim.Native.Nat.{ℕ, _-_, _*_, _/_, _≤_}
+use native.Mathlib.Omega.{arith}
 use lib.ListN.{length, take, replicate}
 use Rattle.rules.specs.declared.Verdict.{Verdict}
 use Rattle.rules.specs.declared.Verdict.the-variants.{Accepted, Refused}
+use Rattle.rules.specs.declared.Outcome.{Outcome}
 use Rattle.rules.specs.Answers.{OutcomeSays, outcomeSays}
-use Rattle.rules.specs.Input.{Input}
+use Rattle.rules.specs.Input.{Input, inputOf}
+use Rattle.rules.specs.Table.{Work}
 use Rattle.rules.specs.Graph.{finished}
 use Rattle.rules.specs.Questions.{isTable}
 use Rattle.rules.specs.Refusals.{verdict, answered, outcome}
 use Rattle.rules.proofs.Refusals.{numbered}
+use Rattle.rules.proofs.Rooms.{same-finished, same-outcome}
 use Rattle.rules.proofs.Questions.{finished-is-table}
 use Rattle.words.specs.Tables.{tableOf}
 use Rattle.words.proofs.Tables.{words-first}
@@ -51,3 +55,19 @@ module _ (N K : ℕ) (ts ns bs es rs ws : List ℕ) where
   result-is-table h =
       let i = handed N K ts ns bs es rs ws in
       rw (result-finished h) (finished-is-table i (rw (leaves-outcome i rs ws (verdict i)) at h))
+
+-- with room for every state limit, the call answers and leaves what the definitions say of an input with just the room that is needed
+module _ (N K : ℕ) (ts ns bs es rs ws : List ℕ) (result : 192 ≤ length rs) (working : 15552 ≤ length ws) (a : Outcome) (rs′ ws′ : List ℕ)
+    (is : record { answer = a; result = rs′; work = ws′ } ≡ analysed N K ts ns bs es rs ws) where
+  pub call-answers : a ≡ outcome (inputOf N K ts ns bs es)
+  unfolding analysed
+  call-answers =
+      ap (λ (f : After). f .answer) is
+      ∙ leaves-outcome (handed N K ts ns bs es rs ws) rs ws (verdict (handed N K ts ns bs es rs ws))
+      ∙ sym (same-outcome N K ts ns bs es (length rs / 3) (length ws / 3) (omega arith) (omega arith))
+
+  pub call-finishes : outcomeSays a .number ≡ 0 → take (outcomeSays a .states) (tableOf rs′) ≡ finished (inputOf N K ts ns bs es) .table
+  call-finishes h =
+      ap (λ (f : After). take (outcomeSays (f .answer) .states) (tableOf (f .result))) is
+      ∙ result-finished N K ts ns bs es rs ws (sym (ap (λ (f : After). outcomeSays (f .answer) .number) is) ∙ h)
+      ∙ ap (λ (w : Work). w .table) (sym (same-finished N K ts ns bs es (length rs / 3) (length ws / 3)))

@@ -17,6 +17,8 @@ pub mod Refusals
 -- The tables of runs and graphs
 pub mod Run
 pub mod Graph
+-- The rooms of a call
+pub mod Rooms
 -- The questions
 pub mod Questions
 -- The worked numbers of document 01

@@ -140,7 +140,7 @@ counts-beyond (suc k) n T l =
     rw (suc-add k n, units-beyond (k + n) T (omega arith), counts-beyond k n T l)
     (append-assoc (countsBelow n T) (replicate k 0) (0 ∷ []) ∙ ap (countsBelow n T ++_) (replicate-append-replicate k 1 0 ∙ ap (λ (j : ℕ). replicate {A = ℕ} j 0) (add-one k)))
 
-counts-take : (k n : ℕ) (T : List State) → take n (countsBelow (k + n) T) ≡ countsBelow n T
+pub counts-take : (k n : ℕ) (T : List State) → take n (countsBelow (k + n) T) ≡ countsBelow n T
 counts-take zero n T = rw (zero-add n) (take-all n (countsBelow n T) (le-of-eq (length-counts n T)))
 counts-take (suc k) n T =
     rw (suc-add k n) (take-append-le n (countsBelow (k + n) T) (unitsAt (k + n) T ∷ []) (rw (length-counts (k + n) T) (omega arith)) ∙ counts-take k n T)
@@ -173,7 +173,7 @@ above-none (s ∷ T) = omega (arith, part (s .misses), above-none T)
     part zero = omega arith
     part (suc m) = rw (ne-eqb (suc m) 0 (λ e. omega (arith, e)), lt-ltb 0 (suc m) (omega arith)) (omega arith)
 
-counts-above : (B : ℕ) (T : List State) → sumOver (λ n. n) (countsBelow (suc B) T) + above B T ≡ total T
+pub counts-above : (B : ℕ) (T : List State) → sumOver (λ n. n) (countsBelow (suc B) T) + above B T ≡ total T
 counts-above zero T = omega (arith, above-none T)
 counts-above (suc B) T =
     omega (arith, sum-append (λ n. n) (countsBelow (suc B) T) (unitsAt (suc B) T ∷ []), above-next B T, counts-above B T)

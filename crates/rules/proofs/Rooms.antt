@@ -1,0 +1,52 @@
+-- The work does not look at the rooms, and the answer only at whether they are long enough: with room for 64 result states and 5,184 working
+-- states it is what it is with exactly the room that is needed.
+use mathlib.Core.Path.{_≡_, refl, ap, _∙_}
+use mathlib.Core.Bool.{Bool, true, false}
+use mathlib.Core.List.{List, [], _∷_, _++_}
+use Prim.Native.Nat.{ℕ, zero, suc, _-_, _≤_}
+use native.Mathlib.Nat.{le-refl}
+use native.Mathlib.Omega.{arith}
+use borrow.Author.Tests.{ltb-false, le-ltb}
+use lib.Dec.{ltb}
+use lib.ListN.{length}
+use Rattle.basics.proofs.Bools.{not-right}
+use Rattle.rules.specs.declared.Verdict.{Verdict}
+use Rattle.rules.specs.declared.Verdict.the-variants.{Accepted, Refused}
+use Rattle.rules.specs.declared.Outcome.the-variants.{Finished}
+use Rattle.rules.specs.Units.{units}
+use Rattle.rules.specs.Input.{Input, inputIn, inputOf, runOf}
+use Rattle.rules.specs.Table.{Work}
+use Rattle.rules.specs.Graph.{Worked, tableAt, node, worked, finished}
+use Rattle.rules.specs.Refusals.{outside, reasons, verdict, answered, outcome}
+
+answered-alike : (v : Verdict) (i j : Input) → finished i ≡ finished j → answered v i ≡ answered v j
+answered-alike Accepted i j e = ap (λ (d : Work). Finished (length (d .table)) (units (d .aside))) e
+answered-alike (Refused r) i j e = refl
+
+module _ (N K : ℕ) (ts ns bs es : List ℕ) (r w : ℕ) where
+  pub same-worked : (n : ℕ) → worked (inputOf N K ts ns bs es) n ≡ worked (inputIn N K ts ns bs es r w) n
+  unfolding worked node runOf
+  same-worked zero = refl
+  same-worked (suc n) =
+      ap (λ (d : Worked). let v = node (inputIn N K ts ns bs es r w) n d in record { tables = d .tables ++ (v .table ∷ []); aside = v .aside }) (same-worked n)
+
+  pub same-finished : finished (inputOf N K ts ns bs es) ≡ finished (inputIn N K ts ns bs es r w)
+  unfolding finished
+  same-finished = ap (λ (d : Worked). record { table = tableAt d (length ns - 1); aside = d .aside }) (same-worked (length ns))
+
+  module _ (result : 64 ≤ r) (working : 5184 ≤ w) where
+    same-verdict : verdict (inputOf N K ts ns bs es) ≡ verdict (inputIn N K ts ns bs es r w)
+    unfolding verdict reasons
+    same-verdict = go (outside 1 64 K) refl
+      where
+        go : (b : Bool) → outside 1 64 K ≡ b → verdict (inputOf N K ts ns bs es) ≡ verdict (inputIn N K ts ns bs es r w)
+        go true e = rw e
+        go false e =
+            let few : K ≤ 64 = ltb-false 64 K (not-right (ltb K 1) (ltb 64 K) e) in
+            rw (le-ltb K K (le-refl K), le-ltb r K (omega arith), le-ltb w 5184 working)
+
+    pub same-outcome : outcome (inputOf N K ts ns bs es) ≡ outcome (inputIn N K ts ns bs es r w)
+    unfolding outcome
+    same-outcome =
+        ap (λ (v : Verdict). answered v (inputOf N K ts ns bs es)) same-verdict
+        ∙ answered-alike (verdict (inputIn N K ts ns bs es r w)) (inputOf N K ts ns bs es) (inputIn N K ts ns bs es r w) same-finished

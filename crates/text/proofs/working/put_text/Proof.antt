@@ -1,0 +1,42 @@
+-- `put_text` meets its contract: 9 for what is malformed, and otherwise the curve of the numbers that were read.
+use native.Mathlib.Omega.{arith}
+use borrow.Author.Needs.{needs}
+use Rattle.text.proofs.Putting.{put-is}
+use Rattle.text.proofs.Curves.{text-malformed, numbers-few, numbers-long, text-read}
+use Rattle.text.proofs.working.put_text.Statement.{statement}
+use Rattle.text.proofs.working.put_text.Tie as tie
+
+numbers-within : tie.Need-slice-reshare-prefix-put-numbers
+numbers-within c =
+    let r = c .before .before .before .before .before .read-numbers in
+    omega (arith, numbers-few _ _ _ (r .ensures) _ (c .before .n .given .1), r .kept .1 .0)
+
+numbers-are : tie.Need-slice-aggregate-put-numbers
+numbers-are c = numbers-long _ _ _ (c .before .before .before .before .before .before .read-numbers .ensures) _ (c .before .before .n .given .1)
+
+returns : tie.Need-returns
+returns c = put-is _ _ _ _ _ _ (c .before .before .put-refused .ensures) (text-malformed _ _ _ (c .before .before .before .before .before .before .before .before .read-numbers .ensures) (c .before .before .before .before .enum-told .given .1))
+
+returns-2 : tie.Need-returns-2
+returns-2 c = put-is _ _ _ _ _ _ (c .before .before .before .before .before .before .before .before .put-numbers .ensures) (text-read _ _ _ (c .before .before .before .before .before .before .before .before .before .before .before .before .before .before .before .before .before .before .before .read-numbers .ensures) _ (c .before .before .before .before .before .before .before .before .before .before .before .before .before .before .before .n .given .1))
+
+pub put-text-spec : {M : Type 1} → statement M
+put-text-spec =
+    tie.close
+    (tie.spec
+    (λ c κs. search needs)
+    (λ c. search needs)
+    (λ c κs. search needs)
+    (λ c. search needs)
+    numbers-within
+    numbers-are
+    (λ c κs. search needs)
+    (λ c. search needs)
+    (λ c. search needs)
+    returns
+    (λ c. search needs)
+    (λ c. search needs)
+    (λ c. search needs)
+    (λ c. search needs)
+    (λ c. search needs)
+    returns-2)

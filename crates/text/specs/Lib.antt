@@ -1,0 +1,20 @@
+-- Well-formed text, and the numbers in it
+pub mod Reading
+-- reading byte by byte
+pub mod Standing
+-- what is found in a text
+pub mod Found
+-- What the numbers mean, in order
+pub mod Parts
+-- where the parts end
+pub mod Places
+-- Numbers and lines as text
+pub mod Writing
+-- how they are put into a room
+pub mod Put
+-- numbers written to be read
+pub mod Numbers
+-- The curve's text
+pub mod Curve
+-- what a call leaves
+pub mod Rooms

@@ -1,0 +1,42 @@
+-- What the numbers mean, in order: ways, K, tracked count, tracked blocks, node count, run lengths, access count, accesses, edge count, edges.
+use mathlib.Core.Bool.{Bool, false, _&&_}
+use mathlib.Core.List.{List, [], _∷_}
+use Prim.Native.Nat.{ℕ, _*_}
+use lib.Dec.{eqb, leb}
+use lib.ListN.{length, getD, take, drop}
+use Rattle.rules.specs.Input.{Input, inputOf}
+
+-- some numbers from the front of a list: whether there were enough, they, and what is left
+pub record Part : Type 0 where
+  pub enough : Bool
+  pub numbers : List ℕ
+  pub rest : List ℕ
+
+-- a count, and `width` numbers for each that it counts
+abbrev pub counted : ℕ → List ℕ → Part
+counted width [] = record { enough = false; numbers = []; rest = [] }
+counted width (k ∷ ns) = record { enough = leb (k * width) (length ns); numbers = take (k * width) ns; rest = drop (k * width) ns }
+
+-- the four lists, one behind the other; an edge is two numbers
+abbrev pub trackedPart : List ℕ → Part
+trackedPart ns = counted 1 (drop 2 ns)
+
+abbrev pub runsPart : List ℕ → Part
+runsPart ns = counted 1 (trackedPart ns .rest)
+
+abbrev pub accessesPart : List ℕ → Part
+accessesPart ns = counted 1 (runsPart ns .rest)
+
+abbrev pub edgesPart : List ℕ → Part
+edgesPart ns = counted 2 (accessesPart ns .rest)
+
+-- no number is missing and none is left over
+unfoldable pub complete : List ℕ → Bool
+complete ns =
+    leb 2 (length ns) && trackedPart ns .enough && runsPart ns .enough && accessesPart ns .enough && edgesPart ns .enough
+    && eqb (length (edgesPart ns .rest)) 0
+
+-- what a graph call is handed
+unfoldable pub inputFrom : List ℕ → Input
+inputFrom ns =
+    inputOf (getD ns 0 0) (getD ns 1 0) (trackedPart ns .numbers) (runsPart ns .numbers) (accessesPart ns .numbers) (edgesPart ns .numbers)

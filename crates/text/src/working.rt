@@ -1,0 +1,133 @@
+// From the numbers to the curve: the graph call, the questions, and the lines that they give.
+use crate::parts::end_of;
+use crate::reading::Read;
+use crate::reading::read_numbers;
+use crate::writing::put_head;
+use crate::writing::put_lines;
+use crate::writing::put_refused;
+use estimate::analyse;
+use questions::spread_in;
+use rules::Count;
+use rules::Outcome;
+use rules::Units;
+ghost use mathlib.Core.Path.{_≡_};
+ghost use mathlib.Core.Bool.{true};
+ghost use mathlib.Core.List.{_++_};
+ghost use Prim.Native.Nat.{_≤_, _<_};
+ghost use lib.ListN.{length, take};
+ghost use Rattle.rules.specs.Questions.{isTable};
+ghost use Rattle.words.specs.Tables.{tableOf};
+ghost use Rattle.text.specs.Parts.{inputFrom};
+ghost use Rattle.text.specs.Places.{Ends};
+ghost use Rattle.text.specs.Writing.{headLine, curveLines};
+ghost use Rattle.text.specs.Put.{Put};
+ghost use Rattle.text.specs.Curve.{curveOfNumbers, curveOfText};
+ghost use Rattle.text.specs.Rooms.{Called, Counted, longEnough};
+
+// The graph call, for numbers that are complete: the tracked blocks end at `first`, the run lengths at `second`, the accesses at `third`.
+pub(crate) fn call(
+    numbers: &[u32],
+    first: usize,
+    second: usize,
+    third: usize,
+    result: &mut [u64],
+    work: &mut [u64],
+) -> Outcome
+    requires { ⌜ Ends (now numbers) first second third × (3 ≤ first) × (first < second) × (second < third) × (third < length (now numbers)) × (192 ≤ length (now result)) × (15552 ≤ length (now work)) ⌝ }
+    ensures { λ r. ⌜ Called (inputFrom (now (numbers .entry))) r (now (result .exit)) ⌝ }
+{
+    analyse(
+        numbers[0],
+        numbers[1],
+        &numbers[3..first],
+        &numbers[first + 1..second],
+        &numbers[second + 1..third],
+        &numbers[third + 1..],
+        result,
+        work,
+    )
+}
+
+// The units at each miss count of the table of `states` states in the result room, at the front of `counts`; how many they are.
+pub(crate) fn count_all(result: &[u64], states: usize, counts: &mut [u64]) -> usize
+    requires { ⌜ (isTable (take states (tableOf (now result))) ≡ true) × (4097 ≤ length (now counts)) ⌝ }
+    ensures { λ r. ⌜ Counted (take states (tableOf (now (result .entry)))) r (now (counts .exit)) ⌝ }
+{
+    match spread_in(result, states, counts) {
+        Count::Misses(last) => last as usize + 1,
+        Count::Refused(why) => 0,
+    }
+}
+
+// The curve of the table of `states` states in the result room, of which `aside` units are set aside.
+pub(crate) fn put_curve(
+    result: &[u64],
+    states: usize,
+    aside: Units,
+    counts: &mut [u64],
+    output: &mut [u8],
+) -> usize
+    requires { ⌜ (isTable (take states (tableOf (now result))) ≡ true) × (4097 ≤ length (now counts)) × (262144 ≤ length (now output)) ⌝ }
+    ensures { λ r. ⌜ Put (headLine states (aside .0) ++ curveLines (take states (tableOf (now (result .entry))))) 0 r (now (output .entry)) (now (output .exit)) ⌝ }
+{
+    let head = put_head(output, states as u64, aside.0);
+    let n = count_all(result, states, counts);
+    put_lines(output, head, &counts[..n])
+}
+
+// The curve of the numbers, or the line of a refusal.
+pub(crate) fn put_numbers(
+    numbers: &[u32],
+    result: &mut [u64],
+    work: &mut [u64],
+    counts: &mut [u64],
+    output: &mut [u8],
+) -> usize
+    requires { ⌜ (192 ≤ length (now result)) × (15552 ≤ length (now work)) × (4097 ≤ length (now counts)) × (262144 ≤ length (now output)) ⌝ }
+    ensures { λ r. ⌜ Put (curveOfNumbers (now (numbers .entry))) 0 r (now (output .entry)) (now (output .exit)) ⌝ }
+{
+    let first = end_of(numbers, 2, 1);
+    let second = end_of(numbers, first, 1);
+    let third = end_of(numbers, second, 1);
+    if end_of(numbers, third, 2) != numbers.len() {
+        return put_refused(output, 9);
+    }
+    match call(numbers, first, second, third, result, work) {
+        Outcome::Refused(why) => put_refused(output, why.number()),
+        Outcome::Finished(states, aside) => put_curve(result, states, aside, counts, output),
+    }
+}
+
+// The curve of the text, or the line of a refusal.
+pub(crate) fn put_text(
+    text: &[u8],
+    numbers: &mut [u32],
+    result: &mut [u64],
+    work: &mut [u64],
+    counts: &mut [u64],
+    output: &mut [u8],
+) -> usize
+    requires { ⌜ (16384 ≤ length (now numbers)) × (192 ≤ length (now result)) × (15552 ≤ length (now work)) × (4097 ≤ length (now counts)) × (262144 ≤ length (now output)) ⌝ }
+    ensures { λ r. ⌜ Put (curveOfText (now (text .entry))) 0 r (now (output .entry)) (now (output .exit)) ⌝ }
+{
+    match read_numbers(text, numbers) {
+        Read::Malformed => put_refused(output, 9),
+        Read::Numbers(n) => put_numbers(&numbers[..n], result, work, counts, output),
+    }
+}
+
+// Whether rooms of so many words and bytes are long enough.
+pub(crate) fn has_room(result: usize, work: usize, counts: usize, output: usize) -> bool
+    ensures { λ r. ⌜ r ≡ longEnough result work counts output ⌝ }
+{
+    if result < 192 {
+        return false;
+    }
+    if work < 15552 {
+        return false;
+    }
+    if counts < 4097 {
+        return false;
+    }
+    262144 <= output
+}
