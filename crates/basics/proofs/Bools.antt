@@ -36,6 +36,18 @@ pub not-right : (a b : Bool) → (a || b) ≡ false → b ≡ false
 not-right true b h = absurd (true≢false h)
 not-right false b h = h
 
+-- three tests together; and two that do not pass together
+pub three : (a b c : Bool) → (a && b && c) ≡ true → (a ≡ true) × (b ≡ true) × (c ≡ true)
+three true true true h = (refl, refl, refl)
+three true true false h = absurd (true≢false (sym h))
+three true false c h = absurd (true≢false (sym h))
+three false b c h = absurd (true≢false (sym h))
+
+pub not-both : (a b : Bool) → (a ≡ true → b ≡ true → ⊥) → (a && b) ≡ false
+not-both true true h = absurd (h refl refl)
+not-both true false h = refl
+not-both false b h = refl
+
 -- a test passes or fails
 pub either : (b : Bool) → (b ≡ true) ⊎ (b ≡ false)
 either true = inl refl

@@ -17,7 +17,7 @@ ghost use Rattle.rules.specs.Run.{run as runOver};
 ghost use Rattle.rules.specs.Graph.{enter as enterOf, joinAll, worked};
 ghost use Rattle.rules.proofs.Refusals.{Checked};
 ghost use Rattle.words.specs.Tables.{tableOf};
-ghost use Rattle.estimate.specs.Rooms.{InPlace, NodeDone, tablesIn, workedIn};
+ghost use Rattle.estimate.specs.Rooms.{InPlace, NodeDone, workedIn};
 ghost use Rattle.estimate.specs.Edges.{cameFrom, AtEdge};
 ghost use Rattle.estimate.specs.Working.{workAt, Startable};
 

@@ -2,7 +2,7 @@
 -- and what is left give the whole. The search by halves keeps a budget that serves, and below it only such as do not.
 use mathlib.Core.Path.{_≡_, sym, _∙_}
 use mathlib.Core.Bool.{cond}
-use mathlib.Core.List.{List, []}
+use mathlib.Core.List.{List}
 use Prim.Native.Nat.{ℕ, _+_, _/_, _≤_, _<_, max}
 use native.Mathlib.Nat.{max-zero}
 use native.Mathlib.Omega.{arith}

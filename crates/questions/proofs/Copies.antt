@@ -1,7 +1,7 @@
 -- The first states of a table in words are the table of the first words. A row that is copied state by state, 65 at most, is asked as
 -- the row itself: a row of more is no table, and its first 65 states are none either.
 use mathlib.Core.Path.{_≡_, refl, sym, ap, _∙_}
-use mathlib.Core.Bool.{Bool, true, false, cond}
+use mathlib.Core.Bool.{Bool, true, false}
 use mathlib.Core.List.{List, [], _∷_, _++_, append-nil, append-assoc}
 use Prim.Native.Nat.{ℕ, _+_, _*_, _/_, _≤_, _<_}
 use native.Mathlib.Nat.{le-of-eq}
@@ -9,7 +9,7 @@ use native.Mathlib.Numerals.{add-one}
 use native.Mathlib.Omega.{arith}
 use borrow.Author.Tests.{leb-true, leb-false, ltb-true, ltb-false, lt-ltb, le-ltb}
 use lib.Dec.{leb, ltb}
-use lib.ListN.{length, take, replicate, length-replicate}
+use lib.ListN.{length, take, length-replicate}
 use lib.Seq.{length-take-le, take-all, take-at, take-suc-set}
 use Rattle.rules.specs.declared.State.{State}
 use Rattle.rules.specs.Questions.{isTable, aboveAnswer, budgetAnswer, spreadAnswer}

@@ -6,7 +6,6 @@ use rules::Amount;
 use rules::Count;
 use rules::State;
 ghost use mathlib.Core.Path.{_≡_};
-ghost use lib.ListN.{take};
 ghost use Rattle.rules.specs.Questions.{aboveAnswer, budgetAnswer, spreadAnswer};
 ghost use Rattle.questions.specs.Rows.{nothingHeld, oneMore, copied, statesOf};
 

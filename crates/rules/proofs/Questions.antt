@@ -16,7 +16,7 @@ use lib.Pow.{pow-mono}
 use lib.Seq.{take-all, take-append-le, getD-at, getD-set-same, getD-set-other, ext-getD}
 use borrow.Author.Tests.{ltb-true, ltb-false, leb-true, leb-false, eqb-true, eqb-false, lt-ltb, le-ltb, le-leb, lt-leb, eq-eqb, ne-eqb}
 use Rattle.basics.specs.Sums.{sumOver}
-use Rattle.basics.proofs.Bools.{and-right, both}
+use Rattle.basics.proofs.Bools.{and-left, and-right, both}
 use Rattle.basics.proofs.Sums.{sum-append}
 use Rattle.rules.specs.declared.Refusal.the-variants.{Row, SpreadRoom}
 use Rattle.rules.specs.declared.Amount.the-variants.{Units, Refused as RefusedAmount}
@@ -294,6 +294,16 @@ finished-is-table i h =
 pub table-total : (T : List State) → isTable T ≡ true → total T ≡ whole
 unfolding isTable
 table-total T h = eqb-true (total T) whole (and-right (leb 1 (length T) && leb (length T) 64 && rising T && allFitting T) (eqb (total T) whole) h)
+
+fitting-largest : (T : List State) → allFitting T ≡ true → largest T ≤ 4096
+unfolding largest
+fitting-largest [] h = zero-le
+fitting-largest (s ∷ T) h =
+    omega (arith, leb-true (s .misses) 4096 (search (and-left, and-right)), fitting-largest T (and-right (fitting s) (allFitting T) h))
+
+pub table-largest : (T : List State) → isTable T ≡ true → largest T ≤ 4096
+unfolding isTable
+table-largest T h = fitting-largest T (search (and-left, and-right))
 
 -- more than 64 states are no table
 pub no-table : (T : List State) → 64 < length T → isTable T ≡ false

@@ -4,16 +4,17 @@
 use mathlib.Core.Path.{_≡_, refl, ap₂, _∙_}
 use mathlib.Core.Bool.{Bool, true, false, cond}
 use mathlib.Core.List.{List, [], _∷_, _++_}
-use Prim.Native.Nat.{ℕ, zero, suc, _+_, _-_, _*_, _/_, _%_, _^_, _≤_, _<_, zero-le}
+use Prim.Native.Nat.{ℕ, zero, suc, _+_, _-_, _/_, _%_, _^_, _≤_, _<_, zero-le}
 use native.Mathlib.Nat.{one-le-pow}
 use native.Mathlib.Omega.{arith}
 use lib.Dec.{ltb}
 use lib.ListN.{length, length-append}
 use borrow.Author.Tests.{ltb-true, ltb-false, lt-ltb, le-ltb, le-leb}
-use Rattle.basics.proofs.Bools.{and-left, and-right, both}
+use Rattle.basics.proofs.Bools.{both}
 use Rattle.io.specs.Digits.{glyph, digits, Fewest}
-use Rattle.text.specs.Reading.{isDigit, allDigits, valueFrom, isNumber}
+use Rattle.text.specs.Reading.{allDigits, valueFrom, isNumber}
 use Rattle.text.specs.Writing.{decimalFrom, decimal}
+use Rattle.text.proofs.Appended.{digits-append, value-append}
 
 -- the last digit of n
 abbrev last : ℕ → List ℕ
@@ -32,24 +33,15 @@ module _ (P : ℕ → ℕ → List ℕ → Type 0) (none : (n : ℕ) → P 0 n [
 
 -- ---- its digits
 
-digits-append : (v w : List ℕ) → allDigits v ≡ true → allDigits w ≡ true → allDigits (v ++ w) ≡ true
-digits-append [] w h l = l
-digits-append (b ∷ v) w h l =
-    both (isDigit b) (allDigits (v ++ w)) (and-left (isDigit b) (allDigits v) h) (digits-append v w (and-right (isDigit b) (allDigits v) h) l)
-
 last-digit : (n : ℕ) → allDigits (last n) ≡ true
 last-digit n = rw (le-leb 48 (48 + n % 10) (omega arith), le-leb (48 + n % 10) 57 (omega arith))
 
 pub decimal-digits : (n : ℕ) → allDigits (decimal n) ≡ true
 unfolding decimal
 decimal-digits =
-    by-digits (λ k n w. allDigits w ≡ true) (λ n. refl) (λ k n s. last-digit n) (λ k n s w h. digits-append w (last n) h (last-digit n)) 20
+    by-digits (λ k n w. allDigits w ≡ true) (λ n. refl) (λ k n s. last-digit n) (λ k n s w h. digits-append w (last n) ∙ both (allDigits w) (allDigits (last n)) h (last-digit n)) 20
 
 -- ---- read back
-
-value-append : (a : ℕ) (v w : List ℕ) → valueFrom a (v ++ w) ≡ valueFrom (valueFrom a v) w
-value-append a [] w = refl
-value-append a (b ∷ v) w = value-append (a * 10 + (b - 48)) v w
 
 pub decimal-value : (n : ℕ) → n < 10 ^ 20 → valueFrom 0 (decimal n) ≡ n
 unfolding decimal
@@ -108,13 +100,10 @@ from-written (suc r) (suc k) n l h m =
     rw (le-ltb n 10 (omega (arith, one-le-pow r 10 (omega arith))))
     (ap₂ _++_ (from-written r k (n / 10) (omega arith) (omega arith) (λ o. omega arith)) (glyph-last n))
 
-decimal-written : (n r : ℕ) → n < 10 ^ 20 → Fewest 10 1 n r → digits 10 r n ≡ decimal n
+-- every number of 64 bits
+pub decimal-written : (n r : ℕ) → n < 2 ^ 64 → Fewest 10 1 n r → digits 10 r n ≡ decimal n
 unfolding decimal
 decimal-written n zero l h = absurd (omega arith)
 decimal-written n (suc r) l h =
     let e : suc r - 1 ≡ r = omega arith in
-    from-written r 19 n l (h .1) (λ o. rw e at (h .2 (omega arith)))
-
--- every number of 64 bits
-pub decimal-written-64 : (n r : ℕ) → n < 2 ^ 64 → Fewest 10 1 n r → digits 10 r n ≡ decimal n
-decimal-written-64 n r l h = decimal-written n r (omega arith) h
+    from-written r 19 n (omega arith) (h .1) (λ o. rw e at (h .2 (omega arith)))

@@ -19,11 +19,10 @@ use Rattle.rules.specs.Units.{whole}
 use Rattle.rules.specs.Table.{total}
 use Rattle.rules.specs.Questions.{isTable, unitsAt, largest, above, countsBelow, spread, SpreadAnswer, spreadAnswer}
 use Rattle.rules.proofs.Refusals.{numbered}
-use Rattle.rules.proofs.Questions.{length-counts, counts-at, counts-take, counts-above, table-total, spread-answered}
+use Rattle.rules.proofs.Questions.{table-largest, length-counts, counts-at, counts-take, counts-above, table-total, spread-answered}
 use Rattle.text.specs.Writing.{countLine, linesBelow, curveLines}
 use Rattle.text.specs.Put.{countLines}
 use Rattle.text.specs.Rooms.{Counted}
-use Rattle.text.proofs.ReadBack.{table-largest}
 
 module _ (T : List State) (full : total T ≡ whole) where
   -- the units with k misses or more

@@ -4,7 +4,7 @@
 use mathlib.Core.Path.{_≡_, refl, sym, ap, ap₂, _∙_}
 use mathlib.Core.Bool.{true, false}
 use mathlib.Core.List.{List, [], _∷_, _++_, map, map-append, append-nil, append-assoc}
-use Prim.Native.Nat.{ℕ, zero, suc, _^_, _≤_, _<_, zero-le}
+use Prim.Native.Nat.{ℕ, zero, suc, _^_, _≤_, _<_}
 use native.Mathlib.Omega.{arith}
 use lib.Dec.{eqb, leb}
 use lib.ListN.{length, length-map}
@@ -14,9 +14,9 @@ use Rattle.basics.proofs.Bools.{and-left, and-right, both, neither}
 use Rattle.rules.specs.declared.State.{State}
 use Rattle.rules.specs.Units.{whole}
 use Rattle.rules.specs.Shape.{Every}
-use Rattle.rules.specs.Questions.{fitting, allFitting, isTable, unitsAt, largest, above, countsBelow, spread}
+use Rattle.rules.specs.Questions.{isTable, unitsAt, largest, above, countsBelow, spread}
 use Rattle.rules.proofs.Lists.{every-append}
-use Rattle.rules.proofs.Questions.{units-most, above-most, table-total}
+use Rattle.rules.proofs.Questions.{units-most, above-most, table-total, table-largest}
 use Rattle.text.specs.Reading.{isGap, isDigit, allDigits, valueFrom, isNumber, ended, wordsFrom, allNumbers, wellFormed, numbersIn}
 use Rattle.text.specs.Writing.{decimal, countLine, linesBelow, curveLines}
 use Rattle.text.specs.Numbers.{listed, triples, seconds}
@@ -92,16 +92,6 @@ curve-words T =
     ∙ append-nil (map decimal (triples (suc (largest T)) T))
 
 -- ---- the numbers in a table's lines, none of them above WHOLE
-
-fitting-largest : (T : List State) → allFitting T ≡ true → largest T ≤ 4096
-unfolding largest
-fitting-largest [] h = zero-le
-fitting-largest (s ∷ T) h =
-    omega (arith, leb-true (s .misses) 4096 (search (and-left, and-right)), fitting-largest T (and-right (fitting s) (allFitting T) h))
-
-pub table-largest : (T : List State) → isTable T ≡ true → largest T ≤ 4096
-unfolding isTable
-table-largest T h = fitting-largest T (search (and-left, and-right))
 
 triples-most : (T : List State) → isTable T ≡ true → (m : ℕ) → m ≤ suc (largest T) → Every (λ n. n ≤ whole) (triples m T)
 unfolding triples

@@ -1,8 +1,8 @@
 -- The words of a text, read byte by byte. A word under way that begins no number stays wrong, whatever follows. From where reading stands with a
 -- word under way that begins one, the rest of a text is read as its words say; with nothing done and nothing under way, the rest is the whole text.
-use mathlib.Core.Path.{_≡_, refl, sym, _∙_}
+use mathlib.Core.Path.{_≡_, refl, sym, ap, _∙_}
 use mathlib.Core.Logic.{_≢_, ⊎-elim}
-use mathlib.Core.Bool.{Bool, true, false, _&&_, true≢false, and-true, and-assoc}
+use mathlib.Core.Bool.{Bool, true, false, _&&_, true≢false, and-true}
 use mathlib.Core.List.{List, [], _∷_, _++_, map, append-nil}
 use Prim.Native.Nat.{ℕ, suc, _+_, _-_, _*_, _≤_, _<_}
 use native.Mathlib.Nat.{zero-add, suc-ne-zero}
@@ -12,27 +12,15 @@ use borrow.Author.Tests.{le-leb, lt-leb, leb-true, ltb-true, ltb-false}
 use lib.Dec.{leb, ltb}
 use lib.ListN.{length, getD, take, drop, set, length-append, length-set, length-map}
 use lib.Seq.{append-snoc, take-suc-set}
-use Rattle.basics.proofs.Bools.{and-left, either}
+use Rattle.basics.proofs.Bools.{and-left, three, not-both, either}
 use Rattle.basics.proofs.Lists.{list-next, list-end}
 use Rattle.text.specs.declared.reading.Progress.{Progress}
 use Rattle.text.specs.declared.reading.Read.the-variants.{Numbers, Malformed}
 use Rattle.text.specs.Reading.{isGap, isDigit, allDigits, valueFrom, isNumber, ended, wordsFrom, allNumbers, wellFormed, numbersIn}
 use Rattle.text.specs.Found.{Found}
 use Rattle.text.specs.Standing.{Standing, standing, going, lost, digitAdded, numberEnded, byteTaken, textTaken}
+use Rattle.text.proofs.Appended.{digits-append, value-append}
 use Rattle.text.proofs.Steps.{no-number, no-place, stored, stays-lost, by-gap, by-other}
-
--- ---- tests together
-
-three : (a b c : Bool) → (a && b && c) ≡ true → (a ≡ true) × (b ≡ true) × (c ≡ true)
-three true true true h = (refl, refl, refl)
-three true true false h = absurd (true≢false (sym h))
-three true false c h = absurd (true≢false (sym h))
-three false b c h = absurd (true≢false (sym h))
-
-not-both : (a b : Bool) → (a ≡ true → b ≡ true → ⊥) → (a && b) ≡ false
-not-both true true h = absurd (h refl refl)
-not-both true false h = refl
-not-both false b h = refl
 
 -- ---- a word under way, and a byte more of it
 
@@ -54,12 +42,10 @@ module _ (b : ℕ) where
   length-more w = omega (arith, length-append w (b ∷ []))
 
   digits-more : (w : List ℕ) → allDigits (w ++ (b ∷ [])) ≡ (allDigits w && isDigit b)
-  digits-more [] = and-true (isDigit b)
-  digits-more (c ∷ w) = rw (digits-more w, and-assoc (isDigit c) (allDigits w) (isDigit b))
+  digits-more w = digits-append w (b ∷ []) ∙ ap (λ (t : Bool). allDigits w && t) (and-true (isDigit b))
 
   value-more : (n : ℕ) (w : List ℕ) → valueFrom n (w ++ (b ∷ [])) ≡ valueFrom n w * 10 + (b - 48)
-  value-more n [] = refl
-  value-more n (c ∷ w) = value-more (n * 10 + (c - 48)) w
+  value-more n w = value-append n w (b ∷ [])
 
   module _ (w : List ℕ) where
     begins-more : begins (w ++ (b ∷ [])) ≡ (ltb (length w) 10 && (allDigits w && isDigit b) && leb (valueFrom 0 w * 10 + (b - 48)) 4294967295)

@@ -1,7 +1,6 @@
 // What the numbers mean, in order: where each part ends.
 ghost use mathlib.Core.Path.{_≡_};
 ghost use Prim.Native.Nat.{_≤_};
-ghost use lib.ListN.{length};
 ghost use Rattle.text.specs.Places.{endOf};
 
 // Where the part ends whose count stands at place `at`, with `width` numbers for each that it counts; past the end where it is cut short.

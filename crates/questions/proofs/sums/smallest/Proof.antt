@@ -1,6 +1,5 @@
 -- `smallest` meets its contract. The invariant of its loop: `high` serves, and no budget below `low` does. One comparison decides for all
 -- below, since the units above fall as the budget grows.
-use mathlib.Core.Path.{_≡_, sym, _∙_}
 use Prim.Native.Nat.{_-_, _≤_}
 use native.Mathlib.Omega.{arith}
 use borrow.Author.Needs.{needs}

@@ -1,6 +1,6 @@
 -- `units_above` meets its contract. The invariant of its loop: the sum so far and the units above of what is left are those of all, which are
 -- at most WHOLE.
-use mathlib.Core.Path.{_≡_, refl}
+use mathlib.Core.Path.{_≡_}
 use Prim.Native.Nat.{_+_, _-_, _≤_}
 use native.Mathlib.Nat.{zero-add}
 use native.Mathlib.Omega.{arith}

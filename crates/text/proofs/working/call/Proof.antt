@@ -4,7 +4,6 @@ use native.Mathlib.Omega.{arith}
 use borrow.Author.Needs.{needs}
 use denote.Ref.{now}
 use Rattle.rules.specs.Input.{Input}
-use Rattle.rules.specs.Table.{Work}
 use Rattle.rules.specs.Graph.{finished}
 use Rattle.rules.specs.Refusals.{outcome}
 use Rattle.estimate.proofs.Finished.{call-answers, call-finishes}

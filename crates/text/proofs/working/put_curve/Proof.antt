@@ -3,8 +3,8 @@ use native.Mathlib.Omega.{arith}
 use borrow.Author.Needs.{needs}
 use denote.Ref.{now}
 use lib.ListN.{take}
+use Rattle.rules.proofs.Questions.{table-largest}
 use Rattle.words.specs.Tables.{tableOf}
-use Rattle.text.proofs.ReadBack.{table-largest}
 use Rattle.text.proofs.Putting.{put-is, put-then, head-long}
 use Rattle.text.proofs.Lines.{counted-long, counted-lines, counted-whole}
 use Rattle.text.proofs.working.put_curve.Statement.{statement}

@@ -1,6 +1,5 @@
 -- `put_numbers` meets its contract: 9 for numbers that are not complete, then the refusal of the graph call, then the curve.
 use mathlib.Core.Path.{sym, _∙_}
-use native.Mathlib.Omega.{arith}
 use borrow.Author.Needs.{needs}
 use denote.Ref.{now}
 use Rattle.text.specs.Places.{Ends}
