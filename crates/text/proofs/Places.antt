@@ -2,7 +2,7 @@
 -- so do all behind it; the list is complete just where the last part ends with it.
 use mathlib.Core.Path.{_≡_, refl, sym, ap, ap₂, _∙_}
 use mathlib.Core.Logic.{_≢_}
-use mathlib.Core.Bool.{Bool, true, false, _&&_}
+use mathlib.Core.Bool.{Bool, true, false, _&&_, and-false}
 use mathlib.Core.List.{List, _∷_}
 use Prim.Native.Nat.{ℕ, _+_, _-_, _*_, _≤_, _<_}
 use native.Mathlib.Numerals.{add-one}
@@ -142,11 +142,6 @@ module _ (ns : List ℕ) where
       (λ i. tests (two i) (tracked-is h₁ i) (runs-is h₁ h₂ i) (accesses-is h₁ h₂ h₃ i) (edges-is h₁ h₂ h₃ h₄ i))
       ∙ eq-eqb (length (drop e₄ ns)) 0 (omega (arith, length-drop e₄ ns))
 
-  -- where one test fails, so do all together
-  fails : (a : Bool) → (a && false) ≡ false
-  fails true = refl
-  fails false = refl
-
   not-complete : e₄ ≢ length ns → complete ns ≡ false
   unfolding complete
   not-complete d = go₁ (leb e₁ n) refl
@@ -176,28 +171,28 @@ module _ (ns : List ℕ) where
       go₄ h₁ h₂ h₃ true e =
           let h₄ : e₄ ≤ n = leb-true e₄ n e in
           let over : none ≡ false = ap (λ (t : Part). eqb (length (t .rest)) 0) (edges-is h₁ h₂ h₃ h₄) ∙ ne-eqb (length (drop e₄ ns)) 0 (λ z. d (omega (arith, z, length-drop e₄ ns))) in
-          ap (λ (x : Bool). b && p .enough && q .enough && r .enough && s .enough && x) over ∙ fails (b && p .enough && q .enough && r .enough && s .enough)
+          ap (λ (x : Bool). b && p .enough && q .enough && r .enough && s .enough && x) over ∙ and-false (b && p .enough && q .enough && r .enough && s .enough)
       go₄ h₁ h₂ h₃ false e =
           let short : s .enough ≡ false = ap (λ (t : Part). counted 2 (t .rest) .enough) (accesses-is h₁ h₂ h₃) ∙ part-short 2 ns e₃ (leb-false e₄ n e) in
-          ap (λ (x : Bool). b && p .enough && q .enough && r .enough && x && none) short ∙ ap (λ (x : Bool). x && none) (fails (b && p .enough && q .enough && r .enough))
+          ap (λ (x : Bool). b && p .enough && q .enough && r .enough && x && none) short ∙ ap (λ (x : Bool). x && none) (and-false (b && p .enough && q .enough && r .enough))
 
       go₃ : e₁ ≤ n → e₂ ≤ n → (c : Bool) → leb e₃ n ≡ c → tests b p q r s ≡ false
       go₃ h₁ h₂ true e = go₄ h₁ h₂ (leb-true e₃ n e) (leb e₄ n) refl
       go₃ h₁ h₂ false e =
           let short : r .enough ≡ false = ap (λ (t : Part). counted 1 (t .rest) .enough) (runs-is h₁ h₂) ∙ part-short 1 ns e₂ (leb-false e₃ n e) in
-          ap (λ (x : Bool). b && p .enough && q .enough && x && s .enough && none) short ∙ ap (λ (x : Bool). x && s .enough && none) (fails (b && p .enough && q .enough))
+          ap (λ (x : Bool). b && p .enough && q .enough && x && s .enough && none) short ∙ ap (λ (x : Bool). x && s .enough && none) (and-false (b && p .enough && q .enough))
 
       go₂ : e₁ ≤ n → (c : Bool) → leb e₂ n ≡ c → tests b p q r s ≡ false
       go₂ h₁ true e = go₃ h₁ (leb-true e₂ n e) (leb e₃ n) refl
       go₂ h₁ false e =
           let short : q .enough ≡ false = ap (λ (t : Part). counted 1 (t .rest) .enough) (tracked-is h₁) ∙ part-short 1 ns e₁ (leb-false e₂ n e) in
-          ap (λ (x : Bool). b && p .enough && x && r .enough && s .enough && none) short ∙ ap (λ (x : Bool). x && r .enough && s .enough && none) (fails (b && p .enough))
+          ap (λ (x : Bool). b && p .enough && x && r .enough && s .enough && none) short ∙ ap (λ (x : Bool). x && r .enough && s .enough && none) (and-false (b && p .enough))
 
       go₁ : (c : Bool) → leb e₁ n ≡ c → tests b p q r s ≡ false
       go₁ true e = go₂ (leb-true e₁ n e) (leb e₂ n) refl
       go₁ false e =
           ap (λ (x : Bool). b && x && q .enough && r .enough && s .enough && none) (part-short 1 ns 2 (leb-false e₁ n e))
-          ∙ ap (λ (x : Bool). x && q .enough && r .enough && s .enough && none) (fails b)
+          ∙ ap (λ (x : Bool). x && q .enough && r .enough && s .enough && none) (and-false b)
 
 -- ---- with the ends by name
 

@@ -6,7 +6,7 @@ use native.Mathlib.Nat.{le-refl, add-zero}
 use native.Mathlib.Numerals.{add-one}
 use native.Mathlib.Omega.{arith}
 use lib.ListN.{length, getD, set, take, drop, length-append}
-use lib.Seq.{paste, paste-zero, paste-suc, length-paste, take-paste, drop-paste, take-all, drop-drop}
+use lib.Seq.{paste, paste-zero, paste-suc, take-paste, drop-paste, take-all, drop-drop}
 use Rattle.basics.specs.Sums.{sumOver}
 use Rattle.basics.proofs.Lists.{list-next, list-end}
 use Rattle.rules.specs.Units.{whole}
@@ -24,9 +24,6 @@ pub put-is : (bs cs : List ℕ) (at r : ℕ) (o o₁ : List ℕ) → Put bs at r
 put-is bs cs at r o o₁ done e = subst (λ (t : List ℕ). Put t at r o o₁) e done
 
 module _ (bs : List ℕ) (at r : ℕ) (o o₁ : List ℕ) (done : Put bs at r o o₁) (fits : at + length bs ≤ length o) where
-  pub put-length : length o₁ ≡ length o
-  put-length = ap length (done .room) ∙ length-paste o at bs (length bs) fits (le-refl (length bs))
-
   -- another piece behind it
   pub put-then : (cs : List ℕ) (e : ℕ) (o₂ : List ℕ) → Put cs r e o₁ o₂ → Put (bs ++ cs) at e o o₂
   put-then cs e o₂ next = record { ends = omega (arith, next .ends, done .ends, length-append bs cs); room = pasted }
