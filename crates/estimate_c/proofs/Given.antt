@@ -1,0 +1,38 @@
+-- What is given follows what is answered: if the answer `o` of a call is known to be `p`, and the call leaves `a`, then what `p` gives is what `a` gives.
+use mathlib.Core.Path.{_≡_, sym, ap, _∙_}
+use mathlib.Core.List.{List}
+use Prim.Native.Nat.{ℕ}
+use Rattle.rules.specs.declared.Count.{Count}
+use Rattle.rules.specs.declared.Outcome.{Outcome}
+use Rattle.rules.specs.Questions.{SpreadAnswer}
+use Rattle.estimate.specs.Call.{After}
+use Rattle.text.specs.declared.Written.{Written}
+use Rattle.text.specs.Rooms.{Rooms, AfterText, After as AfterNumbers}
+use Rattle.estimate_c.specs.Given.{GraphGiven, graphOf, graphGiven, SpreadGiven, countGiven, spreadGiven, NumbersGiven, bytesOf, numbersGiven, TextGiven, textGiven}
+
+pub graph-given : {o p : Outcome} {result work : List ℕ} (a : After) (states aside : ℕ)
+    → o ≡ p
+    → record { answer = o; result = result; work = work } ≡ a
+    → graphOf p states aside result work ≡ graphGiven a states aside
+graph-given {result = result} {work = work} a states aside told leaves =
+    ap (λ q. graphOf q states aside result work) (sym told) ∙ ap (λ b. graphGiven b states aside) leaves
+
+pub spread-given : {o p : Count} {room : List ℕ} (a : SpreadAnswer) (value : ℕ)
+    → o ≡ p
+    → record { answer = o; room = room } ≡ a
+    → spreadGiven (record { answer = p; room = room }) value ≡ spreadGiven a value
+spread-given {room = room} a value told leaves =
+    ap (λ q. spreadGiven (record { answer = q; room = room }) value) (sym told) ∙ ap (λ b. spreadGiven b value) leaves
+
+pub numbers-given : {o p : Written} {rooms : Rooms} (a : AfterNumbers)
+    → o ≡ p
+    → record { answer = o; rooms = rooms } ≡ a
+    → numbersGiven (record { answer = p; rooms = rooms }) ≡ numbersGiven a
+numbers-given {rooms = rooms} a told leaves = ap (λ q. numbersGiven (record { answer = q; rooms = rooms })) (sym told) ∙ ap numbersGiven leaves
+
+pub text-given : {o p : Written} {numbers : List ℕ} {rooms : Rooms} (a : AfterText)
+    → o ≡ p
+    → record { answer = o; numbers = numbers; rooms = rooms } ≡ a
+    → textGiven (record { answer = p; numbers = numbers; rooms = rooms }) ≡ textGiven a
+text-given {numbers = numbers} {rooms = rooms} a told leaves =
+    ap (λ q. textGiven (record { answer = q; numbers = numbers; rooms = rooms })) (sym told) ∙ ap textGiven leaves

@@ -1,0 +1,2 @@
+-- Proofs of the functions for C.
+pub mod Given

@@ -1,0 +1,31 @@
+-- `estimate_curve_of_text` gives what `curve_of_text` answers: how many bytes, or 0 where a room is too short; the rooms are as it leaves them.
+use Rattle.estimate_c.proofs.Given.{text-given}
+use borrow.Author.Needs.{needs}
+use Rattle.estimate_c.proofs.estimate_curve_of_text.Statement.{statement}
+use Rattle.estimate_c.proofs.estimate_curve_of_text.Tie as tie
+
+returns : tie.Need-returns
+returns c = text-given _ (c .before .n .given .1) (c .before .before .before .before .before .before .before .before .before .before .before .before .before .curve-of-text .ensures)
+
+returns-2 : tie.Need-returns-2
+returns-2 c = text-given _ (c .enum-told .given .1) (c .before .before .before .before .before .before .before .before .before .before .before .before .curve-of-text .ensures)
+
+pub estimate-curve-of-text-spec : {M : Type 1} → statement M
+estimate-curve-of-text-spec =
+    tie.close
+    (tie.spec
+    (λ c κs. search needs)
+    (λ c. search needs)
+    (λ c. search needs)
+    (λ c. search needs)
+    (λ c. search needs)
+    (λ c. search needs)
+    (λ c. search needs)
+    (λ c. search needs)
+    returns
+    (λ c. search needs)
+    (λ c. search needs)
+    (λ c. search needs)
+    (λ c. search needs)
+    (λ c. search needs)
+    returns-2)

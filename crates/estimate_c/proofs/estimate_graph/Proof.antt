@@ -1,0 +1,27 @@
+-- `estimate_graph` gives what `analyse` answers: 0, the number of states and the set-aside count, or the number of the refusal; the rooms are as it leaves them.
+use denote.Ref.{now}
+use Rattle.estimate_c.proofs.Given.{graph-given}
+use borrow.Author.Needs.{needs}
+use Rattle.estimate_c.proofs.estimate_graph.Statement.{statement}
+use Rattle.estimate_c.proofs.estimate_graph.Tie as tie
+
+returns : tie.Need-returns
+returns c = let a = c .before .before .before .before .before .before .before .before .before .before .before .before .before .before .before .before .args in graph-given _ (now (a .states)) (now (a .aside)) (c .before .count .given .1) (c .before .before .before .before .before .before .before .analyse .ensures)
+
+returns-2 : tie.Need-returns-2
+returns-2 c = let a = c .before .before .before .before .before .before .before .before .before .before .before .before .before .before .before .before .before .args in rw (c .number .ensures) (graph-given _ (now (a .states)) (now (a .aside)) (c .before .before .reason .given .1) (c .before .before .before .before .before .before .before .before .analyse .ensures))
+
+pub estimate-graph-spec : {M : Type 1} → statement M
+estimate-graph-spec =
+    tie.close
+    (tie.spec
+    (λ c κs. search needs)
+    (λ c. search needs)
+    (λ c. search needs)
+    (λ c κs. search needs)
+    (λ c. search needs)
+    (λ c. search needs)
+    returns
+    (λ c. search needs)
+    (λ c. search needs)
+    returns-2)

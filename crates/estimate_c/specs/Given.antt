@@ -1,0 +1,76 @@
+-- What a function for C gives: a number, and what stands behind each pointer afterwards. Where the answer is a refusal, what would have taken a value keeps
+-- what stood there.
+use mathlib.Core.List.{List}
+use Prim.Native.Nat.{ℕ}
+use Rattle.rules.specs.declared.Amount.{Amount}
+use Rattle.rules.specs.declared.Amount.the-variants.{Units as AmountOf, Refused as RefusedAmount}
+use Rattle.rules.specs.declared.Count.{Count}
+use Rattle.rules.specs.declared.Count.the-variants.{Misses, Refused as RefusedCount}
+use Rattle.rules.specs.declared.Outcome.{Outcome}
+use Rattle.rules.specs.declared.Outcome.the-variants.{Finished, Refused as RefusedOutcome}
+use Rattle.rules.specs.Answers.{numberOf}
+use Rattle.rules.specs.Questions.{SpreadAnswer}
+use Rattle.estimate.specs.Call.{After}
+use Rattle.text.specs.declared.Written.{Written}
+use Rattle.text.specs.declared.Written.the-variants.{Bytes, NoRoom}
+use Rattle.text.specs.Rooms.{Rooms, AfterText, After as AfterNumbers}
+
+-- ---- the graph call: 0, or the refusal's number; how many states and how many units set aside; the two rooms
+
+pub record GraphGiven : Type 0 where
+  pub number : ℕ
+  pub states : ℕ
+  pub aside : ℕ
+  pub result : List ℕ
+  pub work : List ℕ
+
+abbrev pub graphOf : Outcome → ℕ → ℕ → List ℕ → List ℕ → GraphGiven
+graphOf (Finished n a) states aside result work = record { number = 0; states = n; aside = a .0; result = result; work = work }
+graphOf (RefusedOutcome r) states aside result work =
+    record { number = numberOf r; states = states; aside = aside; result = result; work = work }
+
+abbrev pub graphGiven : After → ℕ → ℕ → GraphGiven
+graphGiven a states aside = graphOf (a .answer) states aside (a .result) (a .work)
+
+-- ---- a question: 0, or the refusal's number; and its value
+
+pub record ValueGiven : Type 0 where
+  pub number : ℕ
+  pub value : ℕ
+
+abbrev pub amountGiven : Amount → ℕ → ValueGiven
+amountGiven (AmountOf u) value = record { number = 0; value = u .0 }
+amountGiven (RefusedAmount r) value = record { number = numberOf r; value = value }
+
+abbrev pub countGiven : Count → ℕ → ValueGiven
+countGiven (Misses m) value = record { number = 0; value = m }
+countGiven (RefusedCount r) value = record { number = numberOf r; value = value }
+
+-- the spread has a room too
+pub record SpreadGiven : Type 0 where
+  pub answer : ValueGiven
+  pub room : List ℕ
+
+abbrev pub spreadGiven : SpreadAnswer → ℕ → SpreadGiven
+spreadGiven s value = record { answer = countGiven (s .answer) value; room = s .room }
+
+-- ---- a curve's text: how many bytes it has, or 0 where a room is too short; and the rooms
+
+abbrev pub bytesOf : Written → ℕ
+bytesOf (Bytes n) = n
+bytesOf NoRoom = 0
+
+pub record NumbersGiven : Type 0 where
+  pub bytes : ℕ
+  pub rooms : Rooms
+
+abbrev pub numbersGiven : AfterNumbers → NumbersGiven
+numbersGiven a = record { bytes = bytesOf (a .answer); rooms = a .rooms }
+
+pub record TextGiven : Type 0 where
+  pub bytes : ℕ
+  pub numbers : List ℕ
+  pub rooms : Rooms
+
+abbrev pub textGiven : AfterText → TextGiven
+textGiven a = record { bytes = bytesOf (a .answer); numbers = a .numbers; rooms = a .rooms }

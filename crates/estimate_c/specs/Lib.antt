@@ -1,0 +1,2 @@
+-- What the functions for C leave.
+pub mod Given

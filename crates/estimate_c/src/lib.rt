@@ -1,0 +1,131 @@
+// The estimate for C: what include/estimate.h declares. Each function calls its namesake in Rattle and gives the answer as numbers.
+use estimate::analyse;
+use questions::above_in;
+use questions::smallest_budget_in;
+use questions::spread_in;
+use rules::Amount;
+use rules::Count;
+use rules::Outcome;
+use text::Written;
+use text::curve_of_numbers;
+use text::curve_of_text;
+ghost use mathlib.Core.Path.{_≡_};
+ghost use lib.ListN.{take};
+ghost use Rattle.rules.specs.Questions.{aboveAnswer, budgetAnswer, spreadAnswer};
+ghost use Rattle.words.specs.Tables.{tableOf};
+ghost use Rattle.estimate.specs.Call.{analysed};
+ghost use Rattle.text.specs.Rooms.{afterNumbers, afterText};
+ghost use Rattle.estimate_c.specs.Given.{graphGiven, amountGiven, countGiven, spreadGiven, numbersGiven, textGiven};
+
+// The graph call.
+#[no_mangle]
+pub extern "C" fn estimate_graph(
+    ways: u32,
+    limit: u32,
+    tracked: &[u32],
+    runs: &[u32],
+    accesses: &[u32],
+    edges: &[u32],
+    result: &mut [u64],
+    work: &mut [u64],
+    states: &mut usize,
+    aside: &mut u64,
+) -> u64
+    ensures { λ r. ⌜ record { number = r; states = now (states .exit); aside = now (aside .exit); result = now (result .exit); work = now (work .exit) } ≡ graphGiven (analysed ways limit (now (tracked .entry)) (now (runs .entry)) (now (accesses .entry)) (now (edges .entry)) (now (result .entry)) (now (work .entry))) (now (states .entry)) (now (aside .entry)) ⌝ }
+{
+    match analyse(ways, limit, tracked, runs, accesses, edges, result, work) {
+        Outcome::Finished(count, units) => {
+            *states = count;
+            *aside = units.0;
+            0
+        }
+        Outcome::Refused(reason) => reason.number(),
+    }
+}
+
+// The units above a budget.
+#[no_mangle]
+pub extern "C" fn estimate_above(table: &[u64], states: usize, budget: u64, units: &mut u64) -> u64
+    ensures { λ r. ⌜ record { number = r; value = now (units .exit) } ≡ amountGiven (aboveAnswer (take states (tableOf (now (table .entry)))) budget) (now (units .entry)) ⌝ }
+{
+    match above_in(table, states, budget) {
+        Amount::Units(found) => {
+            *units = found.0;
+            0
+        }
+        Amount::Refused(reason) => reason.number(),
+    }
+}
+
+// The smallest budget for an allowance.
+#[no_mangle]
+pub extern "C" fn estimate_smallest_budget(
+    table: &[u64],
+    states: usize,
+    allowance: u64,
+    budget: &mut u64,
+) -> u64
+    ensures { λ r. ⌜ record { number = r; value = now (budget .exit) } ≡ countGiven (budgetAnswer (take states (tableOf (now (table .entry)))) allowance) (now (budget .entry)) ⌝ }
+{
+    match smallest_budget_in(table, states, allowance) {
+        Count::Misses(found) => {
+            *budget = found;
+            0
+        }
+        Count::Refused(reason) => reason.number(),
+    }
+}
+
+// The units at each miss count.
+#[no_mangle]
+pub extern "C" fn estimate_spread(
+    table: &[u64],
+    states: usize,
+    counts: &mut [u64],
+    largest: &mut u64,
+) -> u64
+    ensures { λ r. ⌜ record { answer = record { number = r; value = now (largest .exit) }; room = now (counts .exit) } ≡ spreadGiven (spreadAnswer (take states (tableOf (now (table .entry)))) (now (counts .entry))) (now (largest .entry)) ⌝ }
+{
+    match spread_in(table, states, counts) {
+        Count::Misses(found) => {
+            *largest = found;
+            0
+        }
+        Count::Refused(reason) => reason.number(),
+    }
+}
+
+// The curve of a text.
+#[no_mangle]
+pub extern "C" fn estimate_curve_of_text(
+    text: &[u8],
+    numbers: &mut [u32],
+    result: &mut [u64],
+    work: &mut [u64],
+    counts: &mut [u64],
+    output: &mut [u8],
+) -> usize
+    ensures { λ r. ⌜ record { bytes = r; numbers = now (numbers .exit); rooms = record { result = now (result .exit); work = now (work .exit); counts = now (counts .exit); output = now (output .exit) } } ≡ textGiven (afterText (now (text .entry)) (now (numbers .entry)) (record { result = now (result .entry); work = now (work .entry); counts = now (counts .entry); output = now (output .entry) })) ⌝ }
+{
+    match curve_of_text(text, numbers, result, work, counts, output) {
+        Written::Bytes(n) => n,
+        Written::NoRoom => 0,
+    }
+}
+
+// The curve of numbers in the curve's order.
+#[no_mangle]
+pub extern "C" fn estimate_curve_of_numbers(
+    numbers: &[u32],
+    result: &mut [u64],
+    work: &mut [u64],
+    counts: &mut [u64],
+    output: &mut [u8],
+) -> usize
+    ensures { λ r. ⌜ record { bytes = r; rooms = record { result = now (result .exit); work = now (work .exit); counts = now (counts .exit); output = now (output .exit) } } ≡ numbersGiven (afterNumbers (now (numbers .entry)) (record { result = now (result .entry); work = now (work .entry); counts = now (counts .entry); output = now (output .entry) })) ⌝ }
+{
+    match curve_of_numbers(numbers, result, work, counts, output) {
+        Written::Bytes(n) => n,
+        Written::NoRoom => 0,
+    }
+}

@@ -1,0 +1,86 @@
+/* The estimate of instruction-cache misses, for C: the graph call, the questions put to a finished table, and the curve as text.
+ *
+ * Every function can be called with anything: it ends with an answer, or with a refusal that writes nothing. A stretch of memory is passed as a
+ * pointer and how many elements it has; an empty one may be NULL and 0. What is lent for writing overlaps nothing else that is passed.
+ * Linked from libestimate_c.a, which uses no library, no heap and no memory but what it is lent and the stack. */
+#ifndef ESTIMATE_H
+#define ESTIMATE_H
+
+#include <stddef.h>
+#include <stdint.h>
+
+/* Certainty: a unit is a chance of 2^-48. */
+#define ESTIMATE_WHOLE ((uint64_t)281474976710656)
+
+/* The largest that is accepted; the smallest are 1 way, a limit of 1 state and 1 node, and none of the others. */
+#define ESTIMATE_MOST_WAYS 16
+#define ESTIMATE_MOST_STATES 64
+#define ESTIMATE_MOST_TRACKED 16
+#define ESTIMATE_MOST_NODES 64
+#define ESTIMATE_MOST_ACCESSES 4096
+
+/* A state is three words: the contents mask (bit i: the tracked block at place i is surely held), the misses, the units. */
+#define ESTIMATE_STATE_WORDS 3
+
+/* Rooms that are long enough whatever comes in: of a result, of the work, of a spread, of the numbers of a text, and of a curve's text. */
+#define ESTIMATE_RESULT_WORDS 192
+#define ESTIMATE_WORK_WORDS 15552
+#define ESTIMATE_SPREAD_COUNTS 4097
+#define ESTIMATE_NUMBERS 16384
+#define ESTIMATE_OUTPUT_BYTES 262144
+
+/* What a function gives instead of ESTIMATE_DONE: the number of the first rule that is broken, as document 01 has them. */
+enum estimate_refusal {
+    ESTIMATE_DONE = 0,
+    ESTIMATE_WAYS = 1,        /* ways outside 1..16 */
+    ESTIMATE_LIMIT = 2,       /* state limit outside 1..64 */
+    ESTIMATE_TRACKED = 3,     /* more than 16 tracked blocks, or one listed twice */
+    ESTIMATE_ACCESSES = 4,    /* more than 4,096 accesses */
+    ESTIMATE_GRAPH = 5,       /* nodes outside 1..64, run lengths that do not sum to the accesses, or an edge rule broken */
+    ESTIMATE_ROOM = 6,        /* room for fewer than `limit` result states, or fewer than 5,184 working states */
+    ESTIMATE_ROW = 7,         /* the states are no table */
+    ESTIMATE_SPREAD_ROOM = 8, /* spread room shorter than the largest misses + 1 */
+    ESTIMATE_TEXT = 9         /* malformed text: only in a curve's text, as `refused 9` */
+};
+
+/* The graph call: a cache of `ways` ways, at most `limit` states; the tracked blocks; the length of each node's run; all accesses, node after node; the
+ * edges, from and to, two numbers each. Gives ESTIMATE_DONE, or the first of 1, 2, 3, 4, 5, 6 that applies. Done, `result` begins with the finished table
+ * and is zero beyond it, `work` is zero, `*states` is how many states the table has and `*aside` how many units were set aside. Refused, nothing is written. */
+uint64_t estimate_graph(uint32_t ways, uint32_t limit,
+                        const uint32_t *tracked, size_t tracked_count,
+                        const uint32_t *runs, size_t nodes,
+                        const uint32_t *accesses, size_t access_count,
+                        const uint32_t *edges, size_t edge_numbers,
+                        uint64_t *result, size_t result_words,
+                        uint64_t *work, size_t work_words,
+                        size_t *states, uint64_t *aside);
+
+/* The questions take the first `states` states of a table in words, as the graph call left it. Each gives ESTIMATE_DONE, or ESTIMATE_ROW and writes nothing. */
+
+/* The units above a budget, at strictly more misses, go to `*units`. */
+uint64_t estimate_above(const uint64_t *table, size_t words, size_t states, uint64_t budget, uint64_t *units);
+
+/* The smallest budget whose units above are at most `allowance` goes to `*budget`. For a chance of 1 in n the allowance is ESTIMATE_WHOLE / n. */
+uint64_t estimate_smallest_budget(const uint64_t *table, size_t words, size_t states, uint64_t allowance, uint64_t *budget);
+
+/* The units at each miss count from 0 to the largest go to the front of `counts`, which is zero beyond them, and the largest to `*largest`. Gives
+ * ESTIMATE_SPREAD_ROOM, and writes nothing, if `counts` has fewer than the largest + 1. */
+uint64_t estimate_spread(const uint64_t *table, size_t words, size_t states, uint64_t *counts, size_t counts_room, uint64_t *largest);
+
+/* The curve of a text of numbers, as the curve program writes it, a refusal too: it goes to the front of `output`, whose rest stays as it was. Gives how many
+ * bytes that are, at least one; all other rooms are then zero. Gives 0 and writes nothing if a room is shorter than its constant above. */
+size_t estimate_curve_of_text(const uint8_t *text, size_t bytes,
+                              uint32_t *numbers, size_t numbers_room,
+                              uint64_t *result, size_t result_words,
+                              uint64_t *work, size_t work_words,
+                              uint64_t *counts, size_t counts_room,
+                              uint8_t *output, size_t output_bytes);
+
+/* The same of numbers that need not be read first. */
+size_t estimate_curve_of_numbers(const uint32_t *numbers, size_t count,
+                                 uint64_t *result, size_t result_words,
+                                 uint64_t *work, size_t work_words,
+                                 uint64_t *counts, size_t counts_room,
+                                 uint8_t *output, size_t output_bytes);
+
+#endif
