@@ -1,0 +1,38 @@
+# What the commands share; sourced by them. `root` is the repository, `own` the kit's compiler and libraries for this kind of machine.
+root=$(cd "$(dirname "${BASH_SOURCE[0]}")/.." && pwd)
+own=$(dirname "$(dirname "$(rt doc)")")/on/$(uname -m)/toolchain
+
+# on a machine that is no x86-64, the kit's emulator
+emulator=$own/bin/qemu-x86_64
+[ -x "$emulator" ] || emulator=
+
+# NAME: the program of that name is started
+start() { ${emulator:+"$emulator"} "$own/lib/ld-linux-x86-64.so.2" --library-path "$own/lib" "$root/target/bin/$1"; }
+
+# WHAT FILE WORDS..: rt with the words, which make the file; says so where it is made for the first time, and shows what rt says only if it fails
+build() {
+    local what=$1 file=$2 said
+    shift 2
+    [ -e "$root/target/$file" ] || echo "proving and building $what: this takes some minutes" >&2
+    said=$(cd "$root" && rt "$@" </dev/null 2>&1) || {
+        printf '%s\n' "$said" >&2
+        exit 1
+    }
+}
+
+# the library for C, made again only if a crate has changed since
+archive=$root/target/staticlib/libestimate_c.a
+library() {
+    [ -e "$archive" ] && [ -z "$(find "$root/crates" "$root/crates.txt" -newer "$archive" -print -quit)" ] && return
+    build 'the library for C' staticlib/libestimate_c.a staticlib estimate_c
+}
+
+# a C compiler for x86-64: Debian's own, or its cross compiler
+compiler() {
+    local cc=gcc package=gcc
+    [ "$(uname -m)" = x86_64 ] || cc=x86_64-linux-gnu-gcc package=gcc-x86-64-linux-gnu
+    command -v "$cc" || {
+        echo "a C compiler for x86-64 is needed: apt-get install $package" >&2
+        return 1
+    }
+}
