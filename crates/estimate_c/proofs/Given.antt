@@ -8,7 +8,7 @@ use Rattle.rules.specs.Questions.{SpreadAnswer}
 use Rattle.estimate.specs.Call.{After}
 use Rattle.text.specs.declared.Written.{Written}
 use Rattle.text.specs.Rooms.{Rooms, AfterText, After as AfterNumbers}
-use Rattle.estimate_c.specs.Given.{GraphGiven, graphOf, graphGiven, SpreadGiven, countGiven, spreadGiven, NumbersGiven, bytesOf, numbersGiven, TextGiven, textGiven}
+use Rattle.estimate_c.specs.Given.{graphOf, graphGiven, spreadGiven, numbersGiven, textGiven}
 
 pub graph-given : {o p : Outcome} {result work : List ℕ} (a : After) (states aside : ℕ)
     → o ≡ p

@@ -1,2 +1,3 @@
 -- Proofs of the functions for C.
 pub mod Given
+pub mod NeverEmpty

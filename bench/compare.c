@@ -1,0 +1,374 @@
+/* Compares the proved library with plain C on random, damaged and border inputs: `compare [count [seed [number]]]`. With a number, only
+ * the case of that number is run, to repeat a difference. Exit status 1 if there was a difference, or if a refusal never occurred. */
+#include <inttypes.h>
+#include <stdio.h>
+#include <stdlib.h>
+#include <string.h>
+
+#include "estimate.h"
+#include "inputs.h"
+#include "plain.h"
+
+/* What rooms are filled with before a call; where a call writes nothing it is found again. */
+#define PATTERN 0xa5a5a5a5a5a5a5a5u
+#define PATTERN_BYTE 0xa5
+
+/* Words behind each lent room that nothing may write to. */
+#define GUARD 16
+
+/* The case at hand, and what has been counted so far. Refusals are counted by number, and 0 for none. */
+struct run {
+    uint64_t seed, number;
+    unsigned long graphs[10], questions[10], texts[10], short_rooms, differences;
+};
+
+/* All that is lent to the library. */
+struct rooms {
+    uint64_t result[INPUT_RESULT_ROOM + GUARD];
+    uint64_t work[INPUT_WORK_ROOM + GUARD];
+    uint64_t counts[ESTIMATE_SPREAD_COUNTS + GUARD];
+    uint32_t numbers[ESTIMATE_NUMBERS + GUARD];
+    unsigned char output[ESTIMATE_OUTPUT_BYTES + GUARD];
+};
+
+/* How much of them is lent to the curve calls. */
+struct lent {
+    size_t numbers, result, work, counts, output;
+};
+
+static void differ(struct run *run, const char *what)
+{
+    run->differences++;
+    printf("difference: seed %" PRIu64 " number %" PRIu64 ": %s\n", run->seed, run->number, what);
+}
+
+static void expect(struct run *run, bool holds, const char *what)
+{
+    if (!holds)
+        differ(run, what);
+}
+
+static bool words_are(const uint64_t *words, size_t first, size_t end, uint64_t value)
+{
+    for (size_t i = first; i < end; i++) {
+        if (words[i] != value)
+            return false;
+    }
+    return true;
+}
+
+static bool bytes_are(const void *bytes, size_t first, size_t end, unsigned char value)
+{
+    const unsigned char *list = bytes;
+    for (size_t i = first; i < end; i++) {
+        if (list[i] != value)
+            return false;
+    }
+    return true;
+}
+
+/* ---- The graph call ---- */
+
+/* The library's rooms after success: the table and then zeros, the working room zero, nothing written beyond. */
+static void check_graph_rooms(struct run *run, const struct input *input, const struct rooms *rooms, const struct plain_state *table,
+                              size_t states)
+{
+    size_t words = 3 * states;
+    expect(run, memcmp(rooms->result, table, words * sizeof(uint64_t)) == 0, "finished tables");
+    expect(run, words_are(rooms->result, words, input->result_words, 0), "result room beyond the table not zero");
+    expect(run, words_are(rooms->result, input->result_words, INPUT_RESULT_ROOM + GUARD, PATTERN), "written beyond the result room");
+    expect(run, words_are(rooms->work, 0, input->work_words, 0), "working room not zero");
+    expect(run, words_are(rooms->work, input->work_words, INPUT_WORK_ROOM + GUARD, PATTERN), "written beyond the working room");
+}
+
+/* Calls both and compares. Gives the refusal of plain C, and its table in `row`. */
+static int compare_graph(struct run *run, const struct input *input, struct rooms *rooms, struct row *row)
+{
+    struct plain_state table[INPUT_RESULT_ROOM / 3];
+    uint64_t states = PATTERN, aside = PATTERN, plain_aside = PATTERN;
+    size_t plain_states = 0;
+    memset(rooms, PATTERN_BYTE, sizeof *rooms);
+    uint64_t ours = estimate_graph(input->ways, input->limit, input->tracked, input->tracked_count, input->runs, input->nodes,
+                                   input->accesses, input->access_count, input->edges, input->edge_numbers,
+                                   rooms->result, input->result_words, rooms->work, input->work_words, &states, &aside);
+    int plain = plain_graph(input->ways, input->limit, input->tracked, input->tracked_count, input->runs, input->nodes,
+                            input->accesses, input->access_count, input->edges, input->edge_numbers,
+                            input->result_words, input->work_words, table, &plain_states, &plain_aside);
+    run->graphs[plain]++;
+    expect(run, ours == (uint64_t)plain, "refusal of the graph call");
+    if (ours != 0) {
+        expect(run, bytes_are(rooms, 0, sizeof *rooms, PATTERN_BYTE), "a refused graph call wrote to a room");
+        expect(run, states == PATTERN && aside == PATTERN, "a refused graph call wrote a number");
+    } else if (plain == 0) {
+        expect(run, states == plain_states, "numbers of states");
+        expect(run, aside == plain_aside, "set-aside counts");
+        check_graph_rooms(run, input, rooms, table, plain_states);
+        memset(row, 0, sizeof *row);
+        memcpy(row->list, table, plain_states * sizeof *table);
+        row->states = plain_states;
+        row->words = 3 * plain_states;
+    }
+    return plain;
+}
+
+/* ---- The questions ---- */
+
+/* A row as words, as the library takes it. */
+struct row_words {
+    uint64_t list[3 * INPUT_ROW_ROOM];
+};
+
+/* A row of which fewer words are lent than it has states is no table: plain C is asked about none of its states. */
+static size_t states_lent(const struct row *row)
+{
+    return row->words / 3 < row->states ? 0 : row->states;
+}
+
+static void compare_above(struct run *run, const struct row *row, const struct row_words *words, uint64_t budget)
+{
+    uint64_t units = PATTERN, plain_units = PATTERN;
+    uint64_t ours = estimate_above(words->list, row->words, row->states, budget, &units);
+    int plain = plain_above(row->list, states_lent(row), budget, &plain_units);
+    run->questions[plain]++;
+    expect(run, ours == (uint64_t)plain, "refusal of the units above");
+    expect(run, units == plain_units, "units above");
+}
+
+static void compare_budget(struct run *run, const struct row *row, const struct row_words *words, uint64_t allowance)
+{
+    uint64_t budget = PATTERN, plain_budget = PATTERN;
+    uint64_t ours = estimate_smallest_budget(words->list, row->words, row->states, allowance, &budget);
+    int plain = plain_smallest_budget(row->list, states_lent(row), allowance, &plain_budget);
+    run->questions[plain]++;
+    expect(run, ours == (uint64_t)plain, "refusal of the smallest budget");
+    expect(run, budget == plain_budget, "smallest budgets");
+}
+
+static void compare_spread(struct run *run, const struct row *row, const struct row_words *words, size_t room)
+{
+    uint64_t counts[ESTIMATE_SPREAD_COUNTS + GUARD], plain_counts[ESTIMATE_SPREAD_COUNTS + GUARD];
+    uint64_t largest = PATTERN, plain_largest = PATTERN;
+    memset(counts, PATTERN_BYTE, sizeof counts);
+    memset(plain_counts, PATTERN_BYTE, sizeof plain_counts);
+    uint64_t ours = estimate_spread(words->list, row->words, row->states, counts, room, &largest);
+    int plain = plain_spread(row->list, states_lent(row), plain_counts, room, &plain_largest);
+    run->questions[plain]++;
+    expect(run, ours == (uint64_t)plain, "refusal of the spread");
+    expect(run, largest == plain_largest, "largest misses of a spread");
+    expect(run, memcmp(counts, plain_counts, sizeof counts) == 0, "spread rooms");
+}
+
+/* Budgets, allowances and rooms: random ones, and those on the borders of this row. */
+static void compare_questions(struct run *run, struct generator *from, const struct row *row)
+{
+    struct row_words words;
+    uint64_t largest = 0, units = 0;
+    memcpy(words.list, row->list, sizeof words.list);
+    for (size_t i = 0; i < row->states; i++)
+        largest = row->list[i].misses > largest && row->list[i].misses <= 4096 ? row->list[i].misses : largest;
+    uint64_t budget = draw_below(from, (uint32_t)largest + 2);
+    plain_above(row->list, states_lent(row), budget, &units);
+    const uint64_t budgets[] = {0, budget, largest, UINT64_MAX};
+    const uint64_t allowances[] = {0, units, units - 1, draw(from) % PLAIN_WHOLE, PLAIN_WHOLE, UINT64_MAX};
+    const size_t rooms[] = {0, largest, largest + 1, draw_below(from, ESTIMATE_SPREAD_COUNTS), ESTIMATE_SPREAD_COUNTS};
+    for (size_t i = 0; i < sizeof budgets / sizeof *budgets; i++)
+        compare_above(run, row, &words, budgets[i]);
+    for (size_t i = 0; i < sizeof allowances / sizeof *allowances; i++)
+        compare_budget(run, row, &words, allowances[i]);
+    for (size_t i = 0; i < sizeof rooms / sizeof *rooms; i++)
+        compare_spread(run, row, &words, rooms[i]);
+}
+
+/* ---- The curve ---- */
+
+/* The rooms after a curve call: the text and behind it what was there; all other rooms zero as far as they were lent. */
+static void check_curve_rooms(struct run *run, const struct rooms *rooms, const struct lent *lent, size_t length)
+{
+    const size_t word = sizeof(uint64_t), half = sizeof(uint32_t);
+    expect(run, bytes_are(rooms->output, length, sizeof rooms->output, PATTERN_BYTE), "output room behind the text changed");
+    expect(run, bytes_are(rooms->numbers, 0, lent->numbers * half, 0), "number room not zero");
+    expect(run, bytes_are(rooms->numbers, lent->numbers * half, sizeof rooms->numbers, PATTERN_BYTE), "written beyond the numbers");
+    expect(run, bytes_are(rooms->result, 0, lent->result * word, 0), "result room not zero after a curve");
+    expect(run, bytes_are(rooms->result, lent->result * word, sizeof rooms->result, PATTERN_BYTE), "written beyond the result");
+    expect(run, bytes_are(rooms->work, 0, lent->work * word, 0), "working room not zero after a curve");
+    expect(run, bytes_are(rooms->work, lent->work * word, sizeof rooms->work, PATTERN_BYTE), "written beyond the work");
+    expect(run, bytes_are(rooms->counts, 0, lent->counts * word, 0), "spread room not zero after a curve");
+    expect(run, bytes_are(rooms->counts, lent->counts * word, sizeof rooms->counts, PATTERN_BYTE), "written beyond the counts");
+}
+
+/* The refusal that an output says, or 0. */
+static int refusal_in(const unsigned char *output, size_t length)
+{
+    return length == 10 && memcmp(output, "refused ", 8) == 0 ? output[8] - '0' : 0;
+}
+
+static size_t curve_of_text(const struct text *text, struct rooms *rooms, const struct lent *lent)
+{
+    memset(rooms, PATTERN_BYTE, sizeof *rooms);
+    return estimate_curve_of_text(text->list, text->bytes, rooms->numbers, lent->numbers, rooms->result, lent->result,
+                                  rooms->work, lent->work, rooms->counts, lent->counts, rooms->output, lent->output);
+}
+
+static size_t curve_of_numbers(const struct number_list *numbers, struct rooms *rooms, const struct lent *lent)
+{
+    memset(rooms, PATTERN_BYTE, sizeof *rooms);
+    return estimate_curve_of_numbers(numbers->list, numbers->count, rooms->result, lent->result, rooms->work, lent->work,
+                                     rooms->counts, lent->counts, rooms->output, lent->output);
+}
+
+/* Compares the texts; of the numbers too if the text is no more than they are. */
+static void compare_curve(struct run *run, const struct text *text, const struct number_list *numbers, struct rooms *rooms)
+{
+    static const struct lent lent = {
+        ESTIMATE_NUMBERS, ESTIMATE_RESULT_WORDS, ESTIMATE_WORK_WORDS, ESTIMATE_SPREAD_COUNTS, ESTIMATE_OUTPUT_BYTES,
+    };
+    static const struct lent no_numbers = {
+        0, ESTIMATE_RESULT_WORDS, ESTIMATE_WORK_WORDS, ESTIMATE_SPREAD_COUNTS, ESTIMATE_OUTPUT_BYTES,
+    };
+    static unsigned char plain[PLAIN_OUTPUT_BYTES];
+    size_t plain_length = plain_curve(text->list, text->bytes, plain);
+    run->texts[refusal_in(plain, plain_length)]++;
+    size_t length = curve_of_text(text, rooms, &lent);
+    expect(run, length == plain_length && memcmp(rooms->output, plain, length) == 0, "curve of a text");
+    check_curve_rooms(run, rooms, &lent, length);
+    if (numbers != NULL && numbers->count <= ESTIMATE_NUMBERS && text->bytes <= 65536) {
+        length = curve_of_numbers(numbers, rooms, &no_numbers);
+        expect(run, length == plain_length && memcmp(rooms->output, plain, length) == 0, "curve of numbers");
+        check_curve_rooms(run, rooms, &no_numbers, length);
+    }
+}
+
+/* One room shorter than its constant: no bytes, and nothing is written. */
+static void check_short_room(struct run *run, struct generator *from, const struct text *text, const struct number_list *numbers,
+                             struct rooms *rooms)
+{
+    struct lent lent = {
+        ESTIMATE_NUMBERS, ESTIMATE_RESULT_WORDS, ESTIMATE_WORK_WORDS, ESTIMATE_SPREAD_COUNTS, ESTIMATE_OUTPUT_BYTES,
+    };
+    size_t *const shortened[] = {&lent.result, &lent.work, &lent.counts, &lent.output, &lent.numbers};
+    size_t which = draw_below(from, 5), by = draw_below(from, 2) == 0 ? 1 : *shortened[which];
+    *shortened[which] -= by;
+    run->short_rooms++;
+    expect(run, curve_of_text(text, rooms, &lent) == 0, "curve of a text in a short room");
+    expect(run, bytes_are(rooms, 0, sizeof *rooms, PATTERN_BYTE), "a curve of a text wrote to a room although one is short");
+    if (which < 4) {
+        expect(run, curve_of_numbers(numbers, rooms, &lent) == 0, "curve of numbers in a short room");
+        expect(run, bytes_are(rooms, 0, sizeof *rooms, PATTERN_BYTE), "a curve of numbers wrote to a room although one is short");
+    }
+}
+
+/* ---- Cases ---- */
+
+/* The kinds of graph input take turns: random, damaged, border, damaged twice or on the border. */
+static void make_input(struct generator *from, uint64_t number, struct input *input)
+{
+    if (number % 8 == 3 || number % 8 == 7)
+        make_border_input(from, input);
+    else
+        make_random_input(from, input);
+    if (number % 2 == 1 && number % 8 != 3)
+        damage_input(from, input);
+    if (number % 8 == 5)
+        damage_input(from, input);
+}
+
+/* The questions about a finished table, the same damaged, a random table, and a random one damaged. */
+static void run_questions(struct run *run, struct generator *from, struct row *row)
+{
+    if (row->states > 0) {
+        compare_questions(run, from, row);
+        damage_row(from, row);
+        compare_questions(run, from, row);
+    }
+    make_row(from, row);
+    compare_questions(run, from, row);
+    damage_row(from, row);
+    compare_questions(run, from, row);
+}
+
+/* The input as text: as it is, with its numbers damaged, or with its bytes damaged. Half an edge becomes a number left over. */
+static void run_text(struct run *run, struct generator *from, const struct input *input, struct rooms *rooms)
+{
+    static struct number_list numbers;
+    static struct text text;
+    if (run->number % 100 == 50)
+        make_border_numbers(from, &numbers);
+    else
+        numbers_of_input(input, &numbers);
+    if (run->number % 3 == 1)
+        damage_numbers(from, &numbers);
+    text_of_numbers(from, &numbers, &text);
+    if (run->number % 20 == 0)
+        check_short_room(run, from, &text, &numbers, rooms);
+    bool damaged = run->number % 3 == 2;
+    if (damaged)
+        damage_text(from, &text);
+    compare_curve(run, &text, damaged ? NULL : &numbers, rooms);
+}
+
+static void run_case(struct run *run, uint64_t number)
+{
+    static struct input input;
+    static struct rooms rooms;
+    struct row row = {0};
+    struct generator from = generator_of(run->seed, number);
+    run->number = number;
+    make_input(&from, number, &input);
+    compare_graph(run, &input, &rooms, &row);
+    run_questions(run, &from, &row);
+    run_text(run, &from, &input, &rooms);
+}
+
+/* ---- What was counted ---- */
+
+static unsigned long total_of(const unsigned long *counts, int first)
+{
+    unsigned long total = 0;
+    for (int i = first; i < 10; i++)
+        total += counts[i];
+    return total;
+}
+
+static void print_counts(const char *name, const unsigned long *counts)
+{
+    printf("%s: %lu accepted", name, counts[0]);
+    for (int i = 1; i < 10; i++) {
+        if (counts[i] > 0)
+            printf(", %lu refused %d", counts[i], i);
+    }
+    printf("\n");
+}
+
+/* Whether every refusal from 1 to 9, and acceptance, occurred. */
+static bool all_occurred(const struct run *run)
+{
+    bool all = true;
+    for (int i = 0; i < 10; i++) {
+        if (run->graphs[i] + run->questions[i] + run->texts[i] == 0) {
+            printf("error: %s %d never occurred\n", i == 0 ? "answer" : "refusal", i);
+            all = false;
+        }
+    }
+    return all;
+}
+
+int main(int argument_count, char **arguments)
+{
+    uint64_t count = argument_count > 1 ? strtoull(arguments[1], NULL, 10) : 4000;
+    struct run run = {.seed = argument_count > 2 ? strtoull(arguments[2], NULL, 10) : 1};
+    bool complete = true;
+    if (argument_count > 3) {
+        run_case(&run, strtoull(arguments[3], NULL, 10));
+    } else {
+        for (uint64_t number = 0; number < count; number++)
+            run_case(&run, number);
+        complete = all_occurred(&run);
+    }
+    print_counts("graphs", run.graphs);
+    print_counts("questions", run.questions);
+    print_counts("texts", run.texts);
+    printf("curves in a room too short: %lu\n", run.short_rooms);
+    printf("compared: %lu graphs (%lu accepted, %lu refused), %lu questions, %lu texts, %lu differences\n", total_of(run.graphs, 0),
+           run.graphs[0], total_of(run.graphs, 1), total_of(run.questions, 0), total_of(run.texts, 0), run.differences);
+    return run.differences == 0 && complete ? 0 : 1;
+}

@@ -1,0 +1,621 @@
+/* Document 01 in plain C. The section or clause that a function follows stands above it. */
+#include "plain.h"
+
+#include <inttypes.h>
+#include <stdbool.h>
+#include <stdio.h>
+#include <string.h>
+
+#define WHOLE PLAIN_WHOLE
+#define MOST_WAYS 16
+#define MOST_STATES 64
+#define MOST_TRACKED 16
+#define MOST_NODES 64
+#define MOST_ACCESSES 4096
+#define MOST_MASK 65535
+#define STATE_WORDS 3
+#define WORKING_STATES 5184
+
+/* Section 7: the longest text, the most numbers in it, the most digits of one. */
+#define MOST_BYTES 65536
+#define MOST_NUMBERS 16384
+#define MOST_DIGITS 10
+
+/* Section 3: "One access from K states gives at most 17xK before adding." */
+#define MOST_SUCCESSORS (17 * MOST_STATES)
+
+/* What comes in (section 2). */
+struct graph {
+    uint32_t ways, limit;
+    const uint32_t *tracked;
+    size_t tracked_count;
+    const uint32_t *runs;
+    size_t nodes;
+    const uint32_t *accesses;
+    size_t access_count;
+    const uint32_t *edges;
+    size_t edge_numbers;
+};
+
+/* A table at work: states in order, with room for all successors of a full table. */
+struct table {
+    size_t count;
+    struct plain_state states[MOST_SUCCESSORS];
+};
+
+/* The table a node ends with, after the fold. */
+struct node_table {
+    size_t count;
+    struct plain_state states[MOST_STATES];
+};
+
+/* ---- Tables in order ---- */
+
+/* Section 3, the order of a table: by mask as a number, then by misses. */
+static bool is_before(const struct plain_state *a, const struct plain_state *b)
+{
+    return a->mask < b->mask || (a->mask == b->mask && a->misses < b->misses);
+}
+
+/* The place of the first state of the table that is not before the given one. */
+static size_t find_place(const struct table *table, const struct plain_state *state)
+{
+    size_t low = 0, high = table->count;
+    while (low < high) {
+        size_t middle = low + (high - low) / 2;
+        if (is_before(&table->states[middle], state))
+            low = middle + 1;
+        else
+            high = middle;
+    }
+    return low;
+}
+
+/* Section 3: "States with equal mask and misses are added together; states of 0 units vanish." */
+static void put(struct table *table, uint64_t mask, uint64_t misses, uint64_t units)
+{
+    const struct plain_state state = {mask, misses, units};
+    if (units == 0)
+        return;
+    size_t place = find_place(table, &state);
+    struct plain_state *at = &table->states[place];
+    if (place < table->count && at->mask == mask && at->misses == misses) {
+        at->units += units;
+        return;
+    }
+    memmove(at + 1, at, (table->count - place) * sizeof *at);
+    *at = state;
+    table->count++;
+}
+
+/* Takes a state out of the table. */
+static void take_out(struct table *table, size_t place)
+{
+    struct plain_state *at = &table->states[place];
+    table->count--;
+    memmove(at, at + 1, (table->count - place) * sizeof *at);
+}
+
+static void copy_states(struct table *to, const struct plain_state *states, size_t count)
+{
+    memcpy(to->states, states, count * sizeof *states);
+    to->count = count;
+}
+
+/* Section 3, the start: "one state: nothing held, 0 misses, WHOLE units". */
+static void start_table(struct table *table)
+{
+    table->count = 1;
+    table->states[0] = (struct plain_state){0, 0, WHOLE};
+}
+
+/* Section 3: "The set-aside count over all nodes stops at WHOLE". No amount of units is above WHOLE. */
+static void set_aside(uint64_t *aside, uint64_t units)
+{
+    *aside = units >= WHOLE - *aside ? WHOLE : *aside + units;
+}
+
+static unsigned block_count(uint64_t mask)
+{
+    return (unsigned)__builtin_popcountll(mask);
+}
+
+/* ---- Section 3, the fold ---- */
+
+/* "take the state of fewest units (the earliest in table order if tied)" */
+static size_t find_fewest(const struct table *table)
+{
+    size_t found = 0;
+    for (size_t i = 1; i < table->count; i++) {
+        if (table->states[i].units < table->states[found].units)
+            found = i;
+    }
+    return found;
+}
+
+/* "Its partner is the other state that shares most blocks with it; if tied, the one nearest in misses; then the earliest." */
+static size_t find_partner(const struct table *table, size_t one)
+{
+    const struct plain_state *state = &table->states[one];
+    size_t found = table->count;
+    unsigned most_shared = 0;
+    uint64_t least_distance = 0;
+    for (size_t i = 0; i < table->count; i++) {
+        if (i == one)
+            continue;
+        const struct plain_state *other = &table->states[i];
+        unsigned shared = block_count(state->mask & other->mask);
+        uint64_t distance = state->misses > other->misses ? state->misses - other->misses : other->misses - state->misses;
+        if (found == table->count || shared > most_shared || (shared == most_shared && distance < least_distance)) {
+            found = i;
+            most_shared = shared;
+            least_distance = distance;
+        }
+    }
+    return found;
+}
+
+/* "Both are replaced by one: the shared blocks, the larger miss count, the summed units [...] The units of each of the two whose mask
+ * or misses changed are added to the set-aside count." */
+static void fold_once(struct table *table, uint64_t *aside)
+{
+    size_t one = find_fewest(table);
+    size_t two = find_partner(table, one);
+    const struct plain_state a = table->states[one], b = table->states[two];
+    uint64_t mask = a.mask & b.mask;
+    uint64_t misses = a.misses > b.misses ? a.misses : b.misses;
+    if (a.mask != mask || a.misses != misses)
+        set_aside(aside, a.units);
+    if (b.mask != mask || b.misses != misses)
+        set_aside(aside, b.units);
+    take_out(table, one > two ? one : two);
+    take_out(table, one > two ? two : one);
+    put(table, mask, misses, a.units + b.units);
+}
+
+/* "Fold, after each access and each join, only while more than K states remain" */
+static void fold(struct table *table, size_t limit, uint64_t *aside)
+{
+    while (table->count > limit)
+        fold_once(table, aside);
+}
+
+/* ---- Section 3, accesses ---- */
+
+/* Section 2: "Looking up an accessed block finds its place in the list or finds it untracked". Gives the bit of that place, or 0. */
+static uint64_t look_up(const struct graph *graph, uint32_t block)
+{
+    for (size_t i = 0; i < graph->tracked_count; i++) {
+        if (graph->tracked[i] == block)
+            return (uint64_t)1 << i;
+    }
+    return 0;
+}
+
+/* "Access to block b, from a state holding set C, with m misses and w units". The bit of an untracked block is 0. */
+static void step_from(struct table *next, const struct plain_state *from, uint64_t bit, uint32_t ways, uint64_t *aside)
+{
+    if ((from->mask & bit) != 0) {
+        put(next, from->mask, from->misses, from->units);
+        return;
+    }
+    uint64_t share = from->units / ways;
+    uint64_t rest = from->units - share * ways;
+    uint64_t misses = from->misses + 1;
+    for (unsigned i = 0; i < MOST_TRACKED; i++) {
+        uint64_t evicted = (uint64_t)1 << i;
+        if ((from->mask & evicted) != 0)
+            put(next, (from->mask & ~evicted) | bit, misses, share);
+    }
+    put(next, from->mask | bit, misses, (ways - block_count(from->mask)) * share);
+    put(next, bit, misses, rest);
+    set_aside(aside, rest);
+}
+
+/* One access from a whole table, and the fold after it. */
+static void step(const struct table *table, struct table *next, uint64_t bit, const struct graph *graph, uint64_t *aside)
+{
+    next->count = 0;
+    for (size_t i = 0; i < table->count; i++)
+        step_from(next, &table->states[i], bit, graph->ways, aside);
+    fold(next, graph->limit, aside);
+}
+
+/* Section 2: "Each node's run is a stretch of the one access list". */
+static void work_run(struct table *table, const struct graph *graph, size_t first, size_t length, uint64_t *aside)
+{
+    struct table next;
+    for (size_t i = first; i < first + length; i++) {
+        step(table, &next, look_up(graph, graph->accesses[i]), graph, aside);
+        copy_states(table, next.states, next.count);
+    }
+}
+
+/* ---- Section 3, joins and nodes ---- */
+
+/* "Walk both tables from the front; pair as many units as the smaller remaining amount allows; a pair gives the shared blocks and the
+ * larger misses." Both total WHOLE, so they end together. */
+static void join(struct table *joined, const struct table *left, const struct node_table *right)
+{
+    size_t i = 0, j = 0;
+    uint64_t left_units = left->states[0].units, right_units = right->states[0].units;
+    joined->count = 0;
+    while (i < left->count && j < right->count) {
+        const struct plain_state *a = &left->states[i], *b = &right->states[j];
+        uint64_t paired = left_units < right_units ? left_units : right_units;
+        put(joined, a->mask & b->mask, a->misses > b->misses ? a->misses : b->misses, paired);
+        left_units -= paired;
+        right_units -= paired;
+        if (left_units == 0 && ++i < left->count)
+            left_units = left->states[i].units;
+        if (right_units == 0 && ++j < right->count)
+            right_units = right->states[j].units;
+    }
+}
+
+/* "start from the lowest predecessor's table and join the others in rising order, one table at a time; each is a join of its own, folded
+ * before the next." The edges of a node stand together, beginning with number `edge`; gives the number of the first after them. */
+static size_t enter_node(struct table *table, const struct graph *graph, const struct node_table *done, size_t node, size_t edge,
+                         uint64_t *aside)
+{
+    struct table joined;
+    const struct node_table *lowest = &done[graph->edges[2 * edge]];
+    copy_states(table, lowest->states, lowest->count);
+    for (edge++; edge < graph->edge_numbers / 2 && graph->edges[2 * edge + 1] == node; edge++) {
+        join(&joined, table, &done[graph->edges[2 * edge]]);
+        fold(&joined, graph->limit, aside);
+        copy_states(table, joined.states, joined.count);
+    }
+    return edge;
+}
+
+/* "Each node is worked once." The table of the last is the finished one. */
+static void work_nodes(const struct graph *graph, struct table *table, uint64_t *aside)
+{
+    struct node_table done[MOST_NODES];
+    size_t edge = 0, first = 0;
+    for (size_t node = 0; node < graph->nodes; node++) {
+        if (node == 0)
+            start_table(table);
+        else
+            edge = enter_node(table, graph, done, node, edge, aside);
+        work_run(table, graph, first, graph->runs[node], aside);
+        first += graph->runs[node];
+        done[node].count = table->count;
+        memcpy(done[node].states, table->states, table->count * sizeof *table->states);
+    }
+}
+
+/* ---- Section 5, refusals of the graph call ---- */
+
+/* Refusal 3: "more than 16 tracked blocks, or one listed twice" */
+static bool tracked_accepted(const struct graph *graph)
+{
+    if (graph->tracked_count > MOST_TRACKED)
+        return false;
+    for (size_t i = 0; i < graph->tracked_count; i++) {
+        for (size_t j = 0; j < i; j++) {
+            if (graph->tracked[i] == graph->tracked[j])
+                return false;
+        }
+    }
+    return true;
+}
+
+/* Refusal 5: "run lengths not summing to the accesses". At most 64 lengths below 2^32 are summed. */
+static bool runs_accepted(const struct graph *graph)
+{
+    uint64_t sum = 0;
+    for (size_t i = 0; i < graph->nodes; i++)
+        sum += graph->runs[i];
+    return sum == graph->access_count;
+}
+
+/* Section 2: "from lower than to and to below the node count, listed strictly rising by to and then by from" */
+static bool edges_in_order(const struct graph *graph)
+{
+    for (size_t i = 0; i < graph->edge_numbers; i += 2) {
+        uint32_t from = graph->edges[i], to = graph->edges[i + 1];
+        if (from >= to || to >= graph->nodes)
+            return false;
+        if (i == 0)
+            continue;
+        uint32_t from_before = graph->edges[i - 2], to_before = graph->edges[i - 1];
+        if (to < to_before || (to == to_before && from <= from_before))
+            return false;
+    }
+    return true;
+}
+
+/* Section 2: "Every node but 0 has an edge in; every node but the last has an edge out." */
+static bool nodes_connected(const struct graph *graph)
+{
+    bool has_in[MOST_NODES] = {false}, has_out[MOST_NODES] = {false};
+    for (size_t i = 0; i < graph->edge_numbers; i += 2) {
+        has_out[graph->edges[i]] = true;
+        has_in[graph->edges[i + 1]] = true;
+    }
+    for (size_t node = 0; node < graph->nodes; node++) {
+        if (node != 0 && !has_in[node])
+            return false;
+        if (node + 1 != graph->nodes && !has_out[node])
+            return false;
+    }
+    return true;
+}
+
+/* Refusal 5. Half an edge is an edge rule broken. */
+static bool nodes_accepted(const struct graph *graph)
+{
+    if (graph->nodes < 1 || graph->nodes > MOST_NODES)
+        return false;
+    return runs_accepted(graph) && graph->edge_numbers % 2 == 0 && edges_in_order(graph) && nodes_connected(graph);
+}
+
+/* "Checked in this order; the first that applies is given." */
+static int refusal(const struct graph *graph, size_t result_words, size_t work_words)
+{
+    if (graph->ways < 1 || graph->ways > MOST_WAYS)
+        return 1;
+    if (graph->limit < 1 || graph->limit > MOST_STATES)
+        return 2;
+    if (!tracked_accepted(graph))
+        return 3;
+    if (graph->access_count > MOST_ACCESSES)
+        return 4;
+    if (!nodes_accepted(graph))
+        return 5;
+    if (result_words / STATE_WORDS < graph->limit || work_words / STATE_WORDS < WORKING_STATES)
+        return 6;
+    return 0;
+}
+
+int plain_graph(uint32_t ways, uint32_t limit,
+                const uint32_t *tracked, size_t tracked_count,
+                const uint32_t *runs, size_t nodes,
+                const uint32_t *accesses, size_t access_count,
+                const uint32_t *edges, size_t edge_numbers,
+                size_t result_words, size_t work_words,
+                struct plain_state *table, size_t *states, uint64_t *aside)
+{
+    const struct graph graph = {
+        ways, limit, tracked, tracked_count, runs, nodes, accesses, access_count, edges, edge_numbers,
+    };
+    struct table finished;
+    int number = refusal(&graph, result_words, work_words);
+    if (number != 0)
+        return number;
+    *aside = 0;
+    work_nodes(&graph, &finished, aside);
+    *states = finished.count;
+    memcpy(table, finished.states, finished.count * sizeof *table);
+    memset(table + finished.count, 0, (result_words / STATE_WORDS - finished.count) * sizeof *table);
+    return 0;
+}
+
+/* ---- Section 4, the questions ---- */
+
+/* "Accepted as a table: 1 to 64 states, rising as above, masks at most 65,535, misses at most 4,096, each state with at least 1 unit, and
+ * a true total (not one that wrapped) of exactly WHOLE." The total is kept at WHOLE or below, so it cannot wrap. */
+static bool is_table(const struct plain_state *row, size_t states)
+{
+    uint64_t total = 0;
+    if (states < 1 || states > MOST_STATES)
+        return false;
+    for (size_t i = 0; i < states; i++) {
+        if (row[i].mask > MOST_MASK || row[i].misses > MOST_ACCESSES)
+            return false;
+        if (row[i].units < 1 || row[i].units > WHOLE - total)
+            return false;
+        if (i > 0 && !is_before(&row[i - 1], &row[i]))
+            return false;
+        total += row[i].units;
+    }
+    return total == WHOLE;
+}
+
+/* "the units above a budget (misses strictly greater)" */
+static uint64_t units_above(const struct plain_state *row, size_t states, uint64_t budget)
+{
+    uint64_t units = 0;
+    for (size_t i = 0; i < states; i++) {
+        if (row[i].misses > budget)
+            units += row[i].units;
+    }
+    return units;
+}
+
+static uint64_t largest_misses(const struct plain_state *row, size_t states)
+{
+    uint64_t largest = 0;
+    for (size_t i = 0; i < states; i++) {
+        if (row[i].misses > largest)
+            largest = row[i].misses;
+    }
+    return largest;
+}
+
+int plain_above(const struct plain_state *row, size_t states, uint64_t budget, uint64_t *units)
+{
+    if (!is_table(row, states))
+        return 7;
+    *units = units_above(row, states, budget);
+    return 0;
+}
+
+/* "The last always exists": at the largest miss count there are 0 units above. */
+int plain_smallest_budget(const struct plain_state *row, size_t states, uint64_t allowance, uint64_t *budget)
+{
+    uint64_t tried = 0;
+    if (!is_table(row, states))
+        return 7;
+    while (units_above(row, states, tried) > allowance)
+        tried++;
+    *budget = tried;
+    return 0;
+}
+
+/* "the spread (units at each miss count from 0 to the largest present)" */
+int plain_spread(const struct plain_state *row, size_t states, uint64_t *counts, size_t room, uint64_t *largest)
+{
+    if (!is_table(row, states))
+        return 7;
+    uint64_t last = largest_misses(row, states);
+    if (room < last + 1)
+        return 8;
+    memset(counts, 0, room * sizeof *counts);
+    for (size_t i = 0; i < states; i++)
+        counts[row[i].misses] += row[i].units;
+    *largest = last;
+    return 0;
+}
+
+/* ---- Section 7, the curve program ---- */
+
+/* The numbers of a text, and how many of them have been taken. */
+struct numbers {
+    uint32_t list[MOST_NUMBERS];
+    size_t count, taken;
+};
+
+static bool is_gap(unsigned char byte)
+{
+    return byte == ' ' || byte == '\n';
+}
+
+static bool is_digit(unsigned char byte)
+{
+    return byte >= '0' && byte <= '9';
+}
+
+/* "decimal numbers of 1 to 10 digits, each at most 4294967295", from `at` on. Gives how many digits it has, or 0 if it is malformed; ten
+ * digits cannot wrap 64 bits. What ends it is a gap or the end of the text. */
+static size_t read_number(const unsigned char *text, size_t bytes, size_t at, uint32_t *number)
+{
+    uint64_t value = 0;
+    size_t digits = 0;
+    while (at + digits < bytes && is_digit(text[at + digits])) {
+        if (digits == MOST_DIGITS)
+            return 0;
+        value = 10 * value + (uint64_t)(text[at + digits] - '0');
+        digits++;
+    }
+    if (at + digits < bytes && !is_gap(text[at + digits]))
+        return 0;
+    if (value > UINT32_MAX)
+        return 0;
+    *number = (uint32_t)value;
+    return digits;
+}
+
+/* "at most 65,536 bytes and 16,384 decimal numbers [...] separated by one or more spaces or newlines, which may also lead and trail" */
+static bool read_numbers(const unsigned char *text, size_t bytes, struct numbers *numbers)
+{
+    size_t at = 0;
+    numbers->count = 0;
+    numbers->taken = 0;
+    if (bytes > MOST_BYTES)
+        return false;
+    while (at < bytes) {
+        if (is_gap(text[at])) {
+            at++;
+            continue;
+        }
+        if (numbers->count == MOST_NUMBERS)
+            return false;
+        size_t digits = read_number(text, bytes, at, &numbers->list[numbers->count]);
+        if (digits == 0)
+            return false;
+        numbers->count++;
+        at += digits;
+    }
+    return true;
+}
+
+static bool take_number(struct numbers *numbers, uint32_t *number)
+{
+    if (numbers->taken == numbers->count)
+        return false;
+    *number = numbers->list[numbers->taken++];
+    return true;
+}
+
+/* A count, and then as many groups of `each` numbers as it says. */
+static bool take_list(struct numbers *numbers, size_t each, const uint32_t **list, size_t *length)
+{
+    uint32_t count;
+    if (!take_number(numbers, &count))
+        return false;
+    uint64_t wanted = (uint64_t)count * each;
+    if (wanted > numbers->count - numbers->taken)
+        return false;
+    *list = numbers->list + numbers->taken;
+    *length = (size_t)wanted;
+    numbers->taken += *length;
+    return true;
+}
+
+/* "ways, K, tracked count, tracked blocks, node count, run lengths, access count, accesses, edge count, edges. Anything else, a missing
+ * number or one left over gives 9." */
+static bool take_graph(struct numbers *numbers, struct graph *graph)
+{
+    return take_number(numbers, &graph->ways)
+        && take_number(numbers, &graph->limit)
+        && take_list(numbers, 1, &graph->tracked, &graph->tracked_count)
+        && take_list(numbers, 1, &graph->runs, &graph->nodes)
+        && take_list(numbers, 1, &graph->accesses, &graph->access_count)
+        && take_list(numbers, 2, &graph->edges, &graph->edge_numbers)
+        && numbers->taken == numbers->count;
+}
+
+/* Puts a line behind what has been written; gives the new length. */
+static size_t add_line(unsigned char *output, size_t length, const char *line)
+{
+    size_t bytes = strlen(line);
+    memcpy(output + length, line, bytes);
+    return length + bytes;
+}
+
+/* "A refusal prints one line: `refused`, a space and the number." */
+static size_t write_refusal(unsigned char *output, int number)
+{
+    char line[32];
+    snprintf(line, sizeof line, "refused %d\n", number);
+    return add_line(output, 0, line);
+}
+
+/* "a line with the number of states and the set-aside count, then for each miss count from 0 to the largest: misses, units there, units
+ * above" */
+static size_t write_curve(unsigned char *output, const struct plain_state *row, size_t states, uint64_t aside)
+{
+    uint64_t counts[MOST_ACCESSES + 1], largest;
+    char line[80];
+    int number = plain_spread(row, states, counts, MOST_ACCESSES + 1, &largest);
+    if (number != 0)
+        return write_refusal(output, number);
+    snprintf(line, sizeof line, "states %zu aside %" PRIu64 "\n", states, aside);
+    size_t length = add_line(output, 0, line);
+    for (uint64_t misses = 0; misses <= largest; misses++) {
+        uint64_t above = units_above(row, states, misses);
+        snprintf(line, sizeof line, "%" PRIu64 " %" PRIu64 " %" PRIu64 "\n", misses, counts[misses], above);
+        length = add_line(output, length, line);
+    }
+    return length;
+}
+
+size_t plain_curve(const unsigned char *text, size_t bytes, unsigned char *output)
+{
+    struct numbers numbers;
+    struct graph graph;
+    struct plain_state row[MOST_STATES];
+    size_t states;
+    uint64_t aside;
+    if (!read_numbers(text, bytes, &numbers) || !take_graph(&numbers, &graph))
+        return write_refusal(output, 9);
+    int number = plain_graph(graph.ways, graph.limit, graph.tracked, graph.tracked_count, graph.runs, graph.nodes,
+                             graph.accesses, graph.access_count, graph.edges, graph.edge_numbers,
+                             MOST_STATES * STATE_WORDS, WORKING_STATES * STATE_WORDS, row, &states, &aside);
+    if (number != 0)
+        return write_refusal(output, number);
+    return write_curve(output, row, states, aside);
+}

@@ -1,0 +1,43 @@
+/* Document 01 in plain C: the graph call (sections 2, 3 and 5), the questions (section 4) and the curve as text (section 7).
+ * It is what the proved library is compared with and measured against. No state is kept between calls. */
+#ifndef PLAIN_H
+#define PLAIN_H
+
+#include <stddef.h>
+#include <stdint.h>
+
+/* Certainty, in units. */
+#define PLAIN_WHOLE ((uint64_t)1 << 48)
+
+/* Room that is long enough for every output of plain_curve. */
+#define PLAIN_OUTPUT_BYTES 262144
+
+/* A state: the contents mask, the misses and the units. */
+struct plain_state {
+    uint64_t mask, misses, units;
+};
+
+/* The graph call. Gives 0, or the number of the first of the refusals 1 to 6 that applies, and then writes nothing. A room of so many
+ * words holds a third as many states; `table` is the result room, and is zero beyond the finished table. The working room is only
+ * checked: the work is done on the stack. */
+int plain_graph(uint32_t ways, uint32_t limit,
+                const uint32_t *tracked, size_t tracked_count,
+                const uint32_t *runs, size_t nodes,
+                const uint32_t *accesses, size_t access_count,
+                const uint32_t *edges, size_t edge_numbers,
+                size_t result_words, size_t work_words,
+                struct plain_state *table, size_t *states, uint64_t *aside);
+
+/* The units at strictly more misses than the budget. Gives 0 or 7. */
+int plain_above(const struct plain_state *row, size_t states, uint64_t budget, uint64_t *units);
+
+/* The smallest budget whose units above are at most the allowance. Gives 0 or 7. */
+int plain_smallest_budget(const struct plain_state *row, size_t states, uint64_t allowance, uint64_t *budget);
+
+/* The units at each miss count from 0 to the largest, in a room of so many counts, zero beyond them. Gives 0, 7 or 8. */
+int plain_spread(const struct plain_state *row, size_t states, uint64_t *counts, size_t room, uint64_t *largest);
+
+/* What the curve program prints for this text, a refusal too: how many bytes of it there are in `output`. */
+size_t plain_curve(const unsigned char *text, size_t bytes, unsigned char *output);
+
+#endif
