@@ -67,6 +67,17 @@ static bool bytes_are(const void *bytes, size_t first, size_t end, unsigned char
     return true;
 }
 
+/* An empty stretch may be NULL: it is in every second run of eight cases. */
+static const uint32_t *list_or_null(const struct run *run, const uint32_t *list, size_t count)
+{
+    return count == 0 && run->number / 8 % 2 == 1 ? NULL : list;
+}
+
+static uint64_t *room_or_null(const struct run *run, uint64_t *room, size_t words)
+{
+    return words == 0 && run->number / 8 % 2 == 1 ? NULL : room;
+}
+
 /* ---- The graph call ---- */
 
 /* The library's rooms after success: the table and then zeros, the working room zero, nothing written beyond. */
@@ -85,14 +96,19 @@ static void check_graph_rooms(struct run *run, const struct input *input, const 
 static int compare_graph(struct run *run, const struct input *input, struct rooms *rooms, struct row *row)
 {
     struct plain_state table[INPUT_RESULT_ROOM / 3];
-    uint64_t states = PATTERN, aside = PATTERN, plain_aside = PATTERN;
-    size_t plain_states = 0;
+    size_t states = PATTERN, plain_states = 0;
+    uint64_t aside = PATTERN, plain_aside = PATTERN;
+    const uint32_t *tracked = list_or_null(run, input->tracked, input->tracked_count);
+    const uint32_t *runs = list_or_null(run, input->runs, input->nodes);
+    const uint32_t *accesses = list_or_null(run, input->accesses, input->access_count);
+    const uint32_t *edges = list_or_null(run, input->edges, input->edge_numbers);
     memset(rooms, PATTERN_BYTE, sizeof *rooms);
-    uint64_t ours = estimate_graph(input->ways, input->limit, input->tracked, input->tracked_count, input->runs, input->nodes,
-                                   input->accesses, input->access_count, input->edges, input->edge_numbers,
-                                   rooms->result, input->result_words, rooms->work, input->work_words, &states, &aside);
-    int plain = plain_graph(input->ways, input->limit, input->tracked, input->tracked_count, input->runs, input->nodes,
-                            input->accesses, input->access_count, input->edges, input->edge_numbers,
+    uint64_t ours = estimate_graph(input->ways, input->limit, tracked, input->tracked_count, runs, input->nodes,
+                                   accesses, input->access_count, edges, input->edge_numbers,
+                                   room_or_null(run, rooms->result, input->result_words), input->result_words,
+                                   room_or_null(run, rooms->work, input->work_words), input->work_words, &states, &aside);
+    int plain = plain_graph(input->ways, input->limit, tracked, input->tracked_count, runs, input->nodes,
+                            accesses, input->access_count, edges, input->edge_numbers,
                             input->result_words, input->work_words, table, &plain_states, &plain_aside);
     run->graphs[plain]++;
     expect(run, ours == (uint64_t)plain, "refusal of the graph call");
@@ -150,7 +166,7 @@ static void compare_spread(struct run *run, const struct row *row, const struct 
     uint64_t largest = PATTERN, plain_largest = PATTERN;
     memset(counts, PATTERN_BYTE, sizeof counts);
     memset(plain_counts, PATTERN_BYTE, sizeof plain_counts);
-    uint64_t ours = estimate_spread(words->list, row->words, row->states, counts, room, &largest);
+    uint64_t ours = estimate_spread(words->list, row->words, row->states, room_or_null(run, counts, room), room, &largest);
     int plain = plain_spread(row->list, states_lent(row), plain_counts, room, &plain_largest);
     run->questions[plain]++;
     expect(run, ours == (uint64_t)plain, "refusal of the spread");
@@ -205,15 +221,16 @@ static int refusal_in(const unsigned char *output, size_t length)
 static size_t curve_of_text(const struct text *text, struct rooms *rooms, const struct lent *lent)
 {
     memset(rooms, PATTERN_BYTE, sizeof *rooms);
-    return estimate_curve_of_text(text->list, text->bytes, rooms->numbers, lent->numbers, rooms->result, lent->result,
-                                  rooms->work, lent->work, rooms->counts, lent->counts, rooms->output, lent->output);
+    return estimate_curve_of_text(text->bytes == 0 ? NULL : text->list, text->bytes, rooms->numbers, lent->numbers,
+                                  rooms->result, lent->result, rooms->work, lent->work, rooms->counts, lent->counts,
+                                  rooms->output, lent->output);
 }
 
 static size_t curve_of_numbers(const struct number_list *numbers, struct rooms *rooms, const struct lent *lent)
 {
     memset(rooms, PATTERN_BYTE, sizeof *rooms);
-    return estimate_curve_of_numbers(numbers->list, numbers->count, rooms->result, lent->result, rooms->work, lent->work,
-                                     rooms->counts, lent->counts, rooms->output, lent->output);
+    return estimate_curve_of_numbers(numbers->count == 0 ? NULL : numbers->list, numbers->count, rooms->result, lent->result,
+                                     rooms->work, lent->work, rooms->counts, lent->counts, rooms->output, lent->output);
 }
 
 /* Compares the texts; of the numbers too if the text is no more than they are. */

@@ -59,7 +59,7 @@ struct generator generator_of(uint64_t seed, uint64_t number);
 uint64_t draw(struct generator *from);
 uint32_t draw_below(struct generator *from, uint32_t bound);
 
-/* Graph inputs: a random one, nearly always legal; one on the border of what is accepted; and damage to one, which sometimes leaves it
+/* Graph inputs: a random one, which is legal; one on the border of what is accepted; and damage to one, which sometimes leaves it
  * legal. */
 void make_random_input(struct generator *from, struct input *input);
 void make_border_input(struct generator *from, struct input *input);

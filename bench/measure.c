@@ -21,7 +21,8 @@
 
 /* What a call leaves. */
 struct outcome {
-    uint64_t refusal, states, aside;
+    uint64_t refusal, aside;
+    size_t states;
     uint64_t table[ESTIMATE_RESULT_WORDS];
 };
 
@@ -125,7 +126,7 @@ static bool measure_growth(struct input *input)
     return equal;
 }
 
-/* Only one call of one input, for a profiler. */
+/* Only one side's call on one input, so many times, for a profiler. */
 static int run_one(struct input *input, const char *wanted, const char *side, unsigned long times)
 {
     static struct outcome outcome;

@@ -115,9 +115,10 @@ static void set_aside(uint64_t *aside, uint64_t units)
     *aside = units >= WHOLE - *aside ? WHOLE : *aside + units;
 }
 
+/* How many blocks a mask holds; it has at most 16 bits. */
 static unsigned block_count(uint64_t mask)
 {
-    return (unsigned)__builtin_popcountll(mask);
+    return (unsigned)__builtin_popcount((unsigned)mask);
 }
 
 /* ---- Section 3, the fold ---- */
@@ -126,9 +127,12 @@ static unsigned block_count(uint64_t mask)
 static size_t find_fewest(const struct table *table)
 {
     size_t found = 0;
+    uint64_t fewest = table->states[0].units;
     for (size_t i = 1; i < table->count; i++) {
-        if (table->states[i].units < table->states[found].units)
+        if (table->states[i].units < fewest) {
             found = i;
+            fewest = table->states[i].units;
+        }
     }
     return found;
 }

@@ -8,6 +8,7 @@
 /* The blocks of the code: the loop's three, and one for each arm of the branch. */
 enum { LOAD = 0x4000, BLEND = 0x4040, STORE = 0x4080, WEAVE = 0x4100, SMOOTH = 0x4140 };
 
+/* WEAVE is left untracked: it is accessed once, and tracking it would only use up states. */
 static const uint32_t tracked[] = { LOAD, BLEND, STORE, SMOOTH };
 
 /* Node 0 looks at the field, node 1 weaves (still), node 2 smooths (moving), node 3 writes it out: four runs of the one access list. */

@@ -1,8 +1,9 @@
 /* The estimate of instruction-cache misses, for C: the graph call, the questions put to a finished table, and the curve as text.
  *
- * Every function can be called with anything: it ends with an answer, or with a refusal that writes nothing. A stretch of memory is passed as a
- * pointer and how many elements it has; an empty one may be NULL and 0. What is lent for writing overlaps nothing else that is passed.
- * Linked from libestimate_c.a, which uses no library, no heap and no memory but what it is lent and the stack. */
+ * Every function ends with an answer or a refusal, whatever the numbers are. A refusal writes nothing, except that the curve's functions write it as a line of text.
+ * A stretch of memory is passed as a pointer and how many elements it has; an empty one may be NULL and 0. A pointer to one value (states, aside, units, budget,
+ * largest) is never NULL. What is lent for writing overlaps nothing else that is passed: this alone the caller has to see to.
+ * Linked from libestimate_c.a, which uses no heap and no memory but what it is lent and the stack, and of the C library only memcpy and memset. */
 #ifndef ESTIMATE_H
 #define ESTIMATE_H
 
@@ -55,7 +56,8 @@ uint64_t estimate_graph(uint32_t ways, uint32_t limit,
                         uint64_t *work, size_t work_words,
                         size_t *states, uint64_t *aside);
 
-/* The questions take the first `states` states of a table in words, as the graph call left it. Each gives ESTIMATE_DONE, or ESTIMATE_ROW and writes nothing. */
+/* The questions take the first `states` states of a table in words, as the graph call left it, or all that the words hold if there are fewer. Each gives
+ * ESTIMATE_DONE, or ESTIMATE_ROW and writes nothing; estimate_spread may also give ESTIMATE_SPREAD_ROOM. */
 
 /* The units above a budget, at strictly more misses, go to `*units`. */
 uint64_t estimate_above(const uint64_t *table, size_t words, size_t states, uint64_t budget, uint64_t *units);
@@ -76,7 +78,8 @@ size_t estimate_curve_of_text(const uint8_t *text, size_t bytes,
                               uint64_t *counts, size_t counts_room,
                               uint8_t *output, size_t output_bytes);
 
-/* The same of numbers that need not be read first. */
+/* The same of the numbers themselves, in the curve program's order. They are only read; a missing number or one left over is `refused 9`, and more than
+ * ESTIMATE_NUMBERS of them are not malformed. */
 size_t estimate_curve_of_numbers(const uint32_t *numbers, size_t count,
                                  uint64_t *result, size_t result_words,
                                  uint64_t *work, size_t work_words,

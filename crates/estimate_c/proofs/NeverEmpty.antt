@@ -1,4 +1,4 @@
--- A curve's text is never empty, so that 0 bytes mean that a room is too short, and nothing else: each line begins with a word.
+-- A curve's text is never empty, so that 0 bytes mean that a room is too short, and nothing else: it begins with a word, `states` or `refused`.
 use mathlib.Core.Bool.{Bool, true, false, cond}
 use mathlib.Core.List.{List}
 use Prim.Native.Nat.{ℕ, _<_}
@@ -9,7 +9,6 @@ use Rattle.rules.specs.declared.Outcome.{Outcome}
 use Rattle.rules.specs.declared.Outcome.the-variants.{Finished, Refused}
 use Rattle.rules.specs.declared.Refusal.the-variants.{Text}
 use Rattle.rules.specs.Answers.{numberOf}
-use Rattle.rules.specs.Input.{Input}
 use Rattle.rules.specs.Graph.{finished}
 use Rattle.rules.specs.Refusals.{outcome}
 use Rattle.text.specs.Parts.{complete, inputFrom}

@@ -24,11 +24,13 @@ pub record GraphGiven : Type 0 where
   pub result : List ℕ
   pub work : List ℕ
 
+-- of its answer, with what stood behind the two pointers, and the rooms as they are now
 abbrev pub graphOf : Outcome → ℕ → ℕ → List ℕ → List ℕ → GraphGiven
 graphOf (Finished n a) states aside result work = record { number = 0; states = n; aside = a .0; result = result; work = work }
 graphOf (RefusedOutcome r) states aside result work =
     record { number = numberOf r; states = states; aside = aside; result = result; work = work }
 
+-- of what the call leaves
 abbrev pub graphGiven : After → ℕ → ℕ → GraphGiven
 graphGiven a states aside = graphOf (a .answer) states aside (a .result) (a .work)
 
@@ -38,15 +40,17 @@ pub record ValueGiven : Type 0 where
   pub number : ℕ
   pub value : ℕ
 
+-- units
 abbrev pub amountGiven : Amount → ℕ → ValueGiven
 amountGiven (AmountOf u) value = record { number = 0; value = u .0 }
 amountGiven (RefusedAmount r) value = record { number = numberOf r; value = value }
 
+-- a miss count
 abbrev pub countGiven : Count → ℕ → ValueGiven
 countGiven (Misses m) value = record { number = 0; value = m }
 countGiven (RefusedCount r) value = record { number = numberOf r; value = value }
 
--- the spread has a room too
+-- the largest miss count of a spread, and its room
 pub record SpreadGiven : Type 0 where
   pub answer : ValueGiven
   pub room : List ℕ
@@ -56,6 +60,7 @@ spreadGiven s value = record { answer = countGiven (s .answer) value; room = s .
 
 -- ---- a curve's text: how many bytes it has, or 0 where a room is too short; and the rooms
 
+-- how many bytes
 abbrev pub bytesOf : Written → ℕ
 bytesOf (Bytes n) = n
 bytesOf NoRoom = 0
@@ -64,6 +69,7 @@ pub record NumbersGiven : Type 0 where
   pub bytes : ℕ
   pub rooms : Rooms
 
+-- of what the call for numbers leaves
 abbrev pub numbersGiven : AfterNumbers → NumbersGiven
 numbersGiven a = record { bytes = bytesOf (a .answer); rooms = a .rooms }
 
@@ -72,5 +78,6 @@ pub record TextGiven : Type 0 where
   pub numbers : List ℕ
   pub rooms : Rooms
 
+-- of what the call for a text leaves, with the room for numbers
 abbrev pub textGiven : AfterText → TextGiven
 textGiven a = record { bytes = bytesOf (a .answer); numbers = a .numbers; rooms = a .rooms }

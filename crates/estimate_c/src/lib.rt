@@ -1,4 +1,5 @@
-// The estimate for C: what include/estimate.h declares. Each function calls its namesake in Rattle and gives the answer as numbers.
+// The estimate for C: what include/estimate.h declares. Each function calls the one in Rattle that answers (`estimate_graph` calls `analyse`, the questions call
+// those of a table in words), and gives the answer as numbers.
 use estimate::analyse;
 use questions::above_in;
 use questions::smallest_budget_in;
