@@ -88,7 +88,7 @@ on-point (suc n) P Q f j l p q e = go (λ k. on-point n P Q f j k p q (λ i h. e
         rw (s, q, p) (omega (arith, on-eq j P Q f (λ i k. e i (omega arith) (ne-of-lt k))))
     go rest (no s) = rw (e n (le-refl (suc n)) s) (omega (arith, rest (omega arith)))
 
--- the same with no bound on j
+-- where P and Q agree but for j: at most f j more
 pub on-most : (n : ℕ) (P Q : ℕ → Bool) (f : ℕ → ℕ) (j : ℕ) → ((i : ℕ) → i ≢ j → P i ≡ Q i) → sumOn n Q f ≤ sumOn n P f + f j
 on-most zero P Q f j e = zero-le
 on-most (suc n) P Q f j e = go (on-most n P Q f j e) (ℕ-discrete n j)
@@ -102,3 +102,8 @@ on-most (suc n) P Q f j e = go (on-most n P Q f j e) (ℕ-discrete n j)
     go : sumOn n Q f ≤ sumOn n P f + f j → Dec (n ≡ j) → sumOn (suc n) Q f ≤ sumOn (suc n) P f + f j
     go rest (yes s) = rw s (case _ _ (Q j) (P j) (sym (on-eq j P Q f (λ i k. e i (ne-of-lt k)))))
     go rest (no s) = rw (e n s) (omega arith)
+
+-- a part of some units is not more
+pub part-most : (b : Bool) (u : ℕ) → cond b u 0 ≤ u
+part-most true u = le-refl u
+part-most false u = zero-le

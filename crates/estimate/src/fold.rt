@@ -52,7 +52,7 @@ pub(crate) fn closer(s: State, t: State, most: u64, near: u64) -> bool
 }
 
 // The place in the table of the state at place `at` among the others than the one at place `out`; `at` has a next number.
-pub(crate) fn place_of(out: usize, at: usize) -> usize
+pub(crate) fn place_past(out: usize, at: usize) -> usize
     requires { ⌜ at < 18446744073709551615 ⌝ }
     ensures { λ r. ⌜ r ≡ cond (ltb at out) at (suc at) ⌝ }
 {
@@ -81,7 +81,7 @@ pub(crate) fn choose(words: &[u64], n: usize) -> Pair
             i += 1;
         } else {
             let s = load(words, fewest);
-            let first = load(words, place_of(fewest, 0));
+            let first = load(words, place_past(fewest, 0));
             let mut partner: usize = 0;
             let mut most = sharing(s, first);
             let mut near = apart(s, first);
@@ -90,7 +90,7 @@ pub(crate) fn choose(words: &[u64], n: usize) -> Pair
                 if j + 1 >= n {
                     break 'search Pair { fewest, partner };
                 }
-                let t = load(words, place_of(fewest, j));
+                let t = load(words, place_past(fewest, j));
                 if closer(s, t, most, near) {
                     partner = j;
                     most = sharing(s, t);

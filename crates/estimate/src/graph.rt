@@ -48,15 +48,15 @@ pub(crate) fn join_others(
     requires { ⌜ (15552 ≤ length (now work)) × (to < 64) × (tally .states ≤ 64) × (after ≤ length (now edges)) × (1 ≤ limit) × (limit ≤ 64) × Every (λ p. p < to) (cameFrom (now edges) to after) ⌝ }
     ensures { λ r. ⌜ InPlace (joinAll limit (workedIn to (tally .aside .0) (tableOf (now (work .entry)))) (cameFrom (now (edges .entry)) to after) (workAt (to * 64) (tally .states) (tally .aside .0) (now (work .entry)))) (to * 64) (r .states) (r .aside .0) (tableOf (now (work .entry))) (tableOf (now (work .exit))) ⌝ }
 {
-    let mut now = tally;
+    let mut so_far = tally;
     let mut e = next_edge(edges, to, after);
     while e < edges.len() {
         let from = edges[e] as usize * 64;
         let m = count(work, from);
-        now = join_to(work, to * 64, now, from, m, limit);
+        so_far = join_to(work, to * 64, so_far, from, m, limit);
         e = next_edge(edges, to, e + 2);
     }
-    now
+    so_far
 }
 
 // What node `to` starts from, in its slot.

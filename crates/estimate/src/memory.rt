@@ -1,4 +1,4 @@
-// Tables in lent words: three words a state, touched by these functions only.
+// Tables in lent words: three words a state. One state is read and written here only; `finish` moves whole stretches.
 use rules::State;
 use rules::Units;
 ghost use mathlib.Core.Path.{_≡_};

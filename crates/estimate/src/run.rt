@@ -60,13 +60,13 @@ pub(crate) fn run(
     requires { ⌜ (length (now accesses) ≤ 4096) × Ready ways (length (now tracked)) limit (4096 - length (now accesses)) at (tally .states) (tally .aside .0) (now work) ⌝ }
     ensures { λ r. ⌜ InPlace (runOver ways limit (now (tracked .entry)) (now (accesses .entry)) (workAt at (tally .states) (tally .aside .0) (now (work .entry)))) at (r .states) (r .aside .0) (tableOf (now (work .entry))) (tableOf (now (work .exit))) ⌝ }
 {
-    let mut now = tally;
+    let mut so_far = tally;
     let mut i: usize = 0;
     while i < accesses.len() {
-        now = advance(work, at, now, accesses[i], tracked, ways, limit);
+        so_far = advance(work, at, so_far, accesses[i], tracked, ways, limit);
         i += 1;
     }
-    now
+    so_far
 }
 
 // The table of `m` states at place `other` joined to that at place `at`.

@@ -1,4 +1,4 @@
--- Document 01, section 1: the choice sequences of a path, all equally likely, and counts of those that end in a given way.
+-- Document 01, section 1: the choice sequences of a path, all equally likely, and how many of them end in a cache that passes a test.
 use mathlib.Core.Bool.{Bool, cond}
 use mathlib.Core.List.{List, [], _∷_, _++_, map}
 use Prim.Native.Nat.{ℕ, zero, suc}

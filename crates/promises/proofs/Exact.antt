@@ -2,7 +2,7 @@
 use mathlib.Core.Path.{_≡_, refl, sym, ap, _∙_}
 use mathlib.Core.Logic.{_≢_, _⊎_, inl, inr}
 use mathlib.Core.Bool.{Bool, true, false, cond, true≢false}
-use mathlib.Core.List.{List, [], _∷_, map}
+use mathlib.Core.List.{List, [], _∷_}
 use Prim.Native.Nat.{ℕ, suc, _*_, _^_, _≤_, _<_}
 use native.Mathlib.Decide.{ℕ-discrete}
 use native.Mathlib.Omega.{arith}
@@ -23,7 +23,7 @@ use Rattle.rules.proofs.Step.{overWays}
 use Rattle.promises.specs.Paths.{allTracked}
 use Rattle.promises.specs.Ends.{contentsOf}
 use Rattle.promises.proofs.Seen.{bit-contents, contents-lt}
-use Rattle.promises.proofs.Value.{value}
+use Rattle.promises.proofs.Value.{value, placesOf}
 use Rattle.promises.proofs.Safe.{off, placeOf, seen, by-draw, has-contents, sub-miss}
 
 off-keeps : (C : ℕ) (x : Place) (i : ℕ) → x ≢ at i → bit C i ≡ true → bit (off C x) i ≡ true
@@ -83,10 +83,12 @@ module _ (ts : List ℕ) (once : Once ts) (few : length ts ≤ places) where
               before (inr h) = absurd (true≢false (sym now ∙ holds-old ws d (getD ts i 0) b n h))
 
   module _ (F : ℕ → ℕ → ℕ) (N : ℕ) where
+    -- from every cache, the machine's sum is the value of what it holds
+    -- from every cache, the machine's sum is the value of what it holds
     abbrev Exact : List ℕ → Type 0
     Exact p =
         (c : Cache) → Apart (c .ways) → length (c .ways) ≡ N → allTracked ts p ≡ true
-        → total (seen ts F) N c p ≡ value F N (map (find ts) p) (contentsOf ts (c .ways)) (c .misses)
+        → total (seen ts F) N c p ≡ value F N (placesOf ts p) (contentsOf ts (c .ways)) (c .misses)
 
     exact-step : (b : ℕ) (p : List ℕ) → Exact p → Exact (b ∷ p)
     unfolding value
@@ -104,7 +106,7 @@ module _ (ts : List ℕ) (once : Once ts) (few : length ts ≤ places) where
         x = find ts b
 
         v : ℕ → ℕ → ℕ
-        v = value F N (map (find ts) p)
+        v = value F N (placesOf ts p)
 
         g : ℕ → ℕ
         g D = v (with D x) (suc (c .misses))

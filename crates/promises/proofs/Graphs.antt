@@ -2,7 +2,7 @@
 -- lost, whichever edges the path takes. A straight run is the graph of one node.
 use mathlib.Core.Path.{_≡_, refl, sym, ap, _∙_, subst}
 use mathlib.Core.Bool.{Bool, true, false, cond, _||_, _&&_, true≢false}
-use mathlib.Core.List.{List, [], _∷_, _++_, map, flatMap, map-append, append-assoc, append-nil}
+use mathlib.Core.List.{List, [], _∷_, _++_, flatMap, map-append, append-assoc, append-nil}
 use mathlib.Core.Logic.{_⊎_, inl, inr}
 use Prim.Native.Nat.{ℕ, _-_, _*_, _^_, _≤_, _<_}
 use native.Mathlib.Nat.{le-refl, le-trans, le-of-eq, mul-le-mul-left}
@@ -14,7 +14,6 @@ use lib.Seq.{take-length}
 use borrow.Author.Tests.{eqb-true, eq-eqb}
 use Rattle.basics.specs.Sums.{sumOver}
 use Rattle.basics.proofs.Bools.{and-left, and-right, or-cases, or-left, or-right}
-use Rattle.rules.specs.declared.Place.{Place}
 use Rattle.rules.specs.declared.State.{State}
 use Rattle.rules.specs.Units.{whole}
 use Rattle.rules.specs.Contents.{among, find}
@@ -31,7 +30,7 @@ use Rattle.rules.proofs.Refusals.{Checked, predecessor-lower}
 use Rattle.rules.proofs.Run.{table-join}
 use Rattle.rules.proofs.Graph.{nodeTable, table-stays, finished-table, first-and-others, table-enter, node-table}
 use Rattle.promises.specs.Paths.{linked, leads, isPath, accessesOf}
-use Rattle.promises.proofs.Value.{value, Rises, value-rises, value-append}
+use Rattle.promises.proofs.Value.{value, Rises, value-rises, value-append, placesOf}
 use Rattle.promises.proofs.Folds.{kept-folded}
 use Rattle.promises.proofs.Joins.{join-above}
 use Rattle.promises.proofs.Runs.{run-low}
@@ -111,12 +110,9 @@ module _ (i : Input) (ok : Checked i) where
   abbrev N : ℕ
   N = i .ways
 
-  abbrev places : List ℕ → List Place
-  places bs = map (find (i .tracked)) bs
-
   -- the accesses bs lead from T to U: nothing is lost on the way
   abbrev Leads : List State → List ℕ → List State → Type 0
-  Leads T bs U = (f : ℕ → ℕ → ℕ) → Rises N f → worth (value f N (places bs)) T ≤ N ^ length bs * worth f U
+  Leads T bs U = (f : ℕ → ℕ → ℕ) → Rises N f → worth (value f N (placesOf (i .tracked) bs)) T ≤ N ^ length bs * worth f U
 
   -- what node j starts from
   abbrev entered : ℕ → Work
@@ -142,7 +138,7 @@ module _ (i : Input) (ok : Checked i) where
         (rw (table-stays i j a (predecessor-lower i ok a j e .0)) at
         (enter-above N (length (i .tracked)) (i .limit) (length (i .accesses)) (ok .some-ways) (ok .some-states) (worked i j)
         (predecessors (edgesOf (i .edges)) j) before a e
-        (value f N (places (runOf i j))) (value-rises N f rises (places (runOf i j)))))
+        (value f N (placesOf (i .tracked) (runOf i j))) (value-rises N f rises (placesOf (i .tracked) (runOf i j)))))
         (node-run f rises)
 
   -- node 0 has no predecessor, and starts from the start
@@ -158,12 +154,12 @@ module _ (i : Input) (ok : Checked i) where
 
   -- the accesses p lead from the start to T
   abbrev pub Covers : List ℕ → List State → Type 0
-  Covers p T = (f : ℕ → ℕ → ℕ) → Rises N f → whole * value f N (places p) 0 0 ≤ N ^ length p * worth f T
+  Covers p T = (f : ℕ → ℕ → ℕ) → Rises N f → whole * value f N (placesOf (i .tracked) p) 0 0 ≤ N ^ length p * worth f T
 
   covers-on : (p bs : List ℕ) (T U : List State) → Covers p T → Leads T bs U → Covers (p ++ bs) U
   covers-on p bs T U c l f rises =
-      rw (map-append (find (i .tracked)) p bs, value-append f N (places p) (places bs), length-append p bs, pow-add N (length p) (length bs))
-      (le-trans (c (value f N (places bs)) (value-rises N f rises (places bs))) (omega (arith, mul-le-mul-left (N ^ length p) (l f rises))))
+      rw (map-append (find (i .tracked)) p bs, value-append f N (placesOf (i .tracked) p) (placesOf (i .tracked) bs), length-append p bs, pow-add N (length p) (length bs))
+      (le-trans (c (value f N (placesOf (i .tracked) bs)) (value-rises N f rises (placesOf (i .tracked) bs))) (omega (arith, mul-le-mul-left (N ^ length p) (l f rises))))
 
   onward : (z a : ℕ) (q p : List ℕ) → Covers p (nodeTable i a) → leads (edgesOf (i .edges)) z a q ≡ true
       → Covers (p ++ flatMap (runOf i) q) (nodeTable i z)
@@ -193,7 +189,7 @@ module _ (i : Input) (ok : Checked i) where
       begun : Covers (runOf i 0) (nodeTable i 0)
       begun f r =
           le-trans (omega arith)
-          (subst (λ (w : Work). worth (value f N (places (runOf i 0))) (w .table) ≤ N ^ length (runOf i 0) * worth f (nodeTable i 0)) first-start
+          (subst (λ (w : Work). worth (value f N (placesOf (i .tracked) (runOf i 0))) (w .table) ≤ N ^ length (runOf i 0) * worth f (nodeTable i 0)) first-start
           (node-run 0 (ok .some-nodes) f r))
 
   -- ---- one node

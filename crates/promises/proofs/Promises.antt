@@ -22,7 +22,7 @@ use Rattle.promises.specs.Paths.{isPath, accessesOf, allTracked}
 use Rattle.promises.specs.Ends.{over, endsWith, unitsWith}
 use Rattle.promises.proofs.Graphs.{path-covers}
 use Rattle.promises.proofs.Straight.{machine-start, machine-even, straight-high, straight-even, below-whole}
-use Rattle.promises.proofs.Weights.{if, if-most, overIs, over-rises, worth-above, count-over, atIs, worth-with, count-with}
+use Rattle.promises.proofs.Weights.{oneWhere, one-most, overIs, over-rises, worth-above, count-over, atIs, worth-with, count-with}
 
 -- Safe, the first half of point 3. For every accepted graph, every path from first node to last and every budget B:
 -- (choice sequences with more misses than B) × 2^48 ≤ (units above B) × N^L.
@@ -30,8 +30,8 @@ pub safe : (i : Input) → outcomeSays (outcome i) .number ≡ 0 → (path : Lis
     → count (over B) (i .ways) (accessesOf i path) * whole ≤ above B (finished i .table) * i .ways ^ length (accessesOf i path)
 safe i ok path p B =
     let c = accepted i ok in
-    let ahead = path-covers i c path p (if (overIs B)) (over-rises (i .ways) B) in
-    let machine = machine-start i c (if (overIs B)) (over-rises (i .ways) B) (accessesOf i path) in
+    let ahead = path-covers i c path p (oneWhere (overIs B)) (over-rises (i .ways) B) in
+    let machine = machine-start i c (oneWhere (overIs B)) (over-rises (i .ways) B) (accessesOf i path) in
     rw (count-over (i .tracked) B (i .ways) (accessesOf i path), ← worth-above B (finished i .table)) (omega (arith, ahead, machine))
 
 -- Tight, the second half of point 3. On a straight run with every block tracked the excess is at most set aside × N^L.
@@ -43,8 +43,8 @@ tight i ok one all B =
     rw (says-aside i ok, count-over (i .tracked) B (i .ways) (i .accesses))
     (⊎-elim
     (λ e. rw e (omega (arith, mul-le-mul-right (i .ways ^ length (i .accesses)) (below-whole i ok B))))
-    (λ h. omega (arith, rw (worth-above B (finished i .table)) at h, machine-even i c all (if (overIs B))))
-    (straight-high i c one (if (overIs B)) (if-most (overIs B))))
+    (λ h. omega (arith, rw (worth-above B (finished i .table)) at h, machine-even i c all (oneWhere (overIs B))))
+    (straight-high i c one (oneWhere (overIs B)) (one-most (overIs B))))
 
 -- Exact, point 2. On a straight run with every block tracked and nothing set aside, for each contents C and miss count m:
 -- units × N^L = 2^48 × the number of choice sequences ending there.
@@ -54,9 +54,9 @@ pub exact : (i : Input) → outcomeSays (outcome i) .number ≡ 0 → nodes i �
     ≡ whole * count (endsWith (i .tracked) C m) (i .ways) (i .accesses)
 exact i ok one all none C m =
     let c = accepted i ok in
-    let table = straight-even i c one (if (atIs C m)) (sym (says-aside i ok) ∙ none) in
+    let table = straight-even i c one (oneWhere (atIs C m)) (sym (says-aside i ok) ∙ none) in
     rw (count-with (i .tracked) C m (i .ways) (i .accesses), ← worth-with C m (finished i .table))
-    (omega (arith, table, machine-even i c all (if (atIs C m))))
+    (omega (arith, table, machine-even i c all (oneWhere (atIs C m))))
 
 -- Whole. Units always total 2^48, and the finished table is a table by section 4, so that the questions accept it.
 pub whole-table : (i : Input) → outcomeSays (outcome i) .number ≡ 0 → (total (finished i .table) ≡ whole) × (isTable (finished i .table) ≡ true)

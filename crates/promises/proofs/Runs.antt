@@ -2,7 +2,7 @@
 -- N ^ (its length) times what the table it ends in is worth. Each access is one factor N.
 use mathlib.Core.Path.{_≡_, ap, _∙_}
 use mathlib.Core.Logic.{_⊎_, inl, inr}
-use mathlib.Core.List.{List, [], _∷_, map}
+use mathlib.Core.List.{List, [], _∷_}
 use Prim.Native.Nat.{ℕ, suc, _+_, _*_, _^_, _≤_, _<_}
 use native.Mathlib.Nat.{le-trans, le-of-eq, mul-le-mul-left, pow-zero, pow-succ'}
 use native.Mathlib.Omega.{arith}
@@ -19,7 +19,7 @@ use Rattle.rules.proofs.Contents.{size-with, size-zero}
 use Rattle.rules.proofs.Table.{worth}
 use Rattle.rules.proofs.Step.{ahead, Fits, access-shaped, access-total}
 use Rattle.rules.proofs.Run.{table-fits, table-advance, find-listed}
-use Rattle.promises.proofs.Value.{value, Rises, value-rises, value-most}
+use Rattle.promises.proofs.Value.{value, Rises, value-rises, value-most, placesOf}
 use Rattle.promises.proofs.Accesses.{access-low, access-high, access-even}
 use Rattle.promises.proofs.Folds.{aside-none, Kept, kept-folded}
 
@@ -88,21 +88,18 @@ module _ (N K : ℕ) (ts : List ℕ) (some : 0 < N) (room : 0 < K) where
   abbrev k : ℕ
   k = length ts
 
-  abbrev places : List ℕ → List Place
-  places bs = map (find ts) bs
-
   next : (M : ℕ) (b : ℕ) (w : Work) → Table N k K M (w .table) → Table N k K (suc M) (advance N K (find ts b) w .table)
   next M b w t = table-advance N k K some room M (find ts b) w (find-listed ts b) t
 
   pub run-low : (F : ℕ → ℕ → ℕ) → Rises N F → (M : ℕ) (bs : List ℕ) (w : Work) → Table N k K M (w .table)
-      → worth (value F N (places bs)) (w .table) ≤ N ^ length bs * worth F (run N K ts bs w .table)
+      → worth (value F N (placesOf ts bs)) (w .table) ≤ N ^ length bs * worth F (run N K ts bs w .table)
   unfolding run value
   run-low F rises M [] w t = rw (pow-zero N) (omega arith)
   run-low F rises M (b ∷ bs) w t =
       rw (pow-succ' N (length bs))
       (omega (
         arith,
-        advance-low N k K M (find ts b) some (find-listed ts b) w t (value F N (places bs)) (value-rises N F rises (places bs)),
+        advance-low N k K M (find ts b) some (find-listed ts b) w t (value F N (placesOf ts bs)) (value-rises N F rises (placesOf ts bs)),
         mul-le-mul-left N (run-low F rises (suc M) bs (advance N K (find ts b) w) (next M b w t)),
       ))
 
@@ -116,40 +113,40 @@ module _ (N K : ℕ) (ts : List ℕ) (some : 0 < N) (room : 0 < K) where
   pub run-high : (F : ℕ → ℕ → ℕ) → ((C m : ℕ) → F C m ≤ 1) → (M : ℕ) (bs : List ℕ) (w : Work) → Table N k K M (w .table)
       → (run N K ts bs w .aside ≡ whole)
       ⊎ (N ^ length bs * worth F (run N K ts bs w .table) + w .aside * N ^ length bs
-      ≤ worth (value F N (places bs)) (w .table) + run N K ts bs w .aside * N ^ length bs)
+      ≤ worth (value F N (placesOf ts bs)) (w .table) + run N K ts bs w .aside * N ^ length bs)
   unfolding run value
   run-high F most M [] w t = inr (rw (pow-zero N) (omega arith))
   run-high F most M (b ∷ bs) w t =
-      go (advance-high N k K M (find ts b) some (find-listed ts b) w t (value F N (places bs)) (N ^ length bs) top)
+      go (advance-high N k K M (find ts b) some (find-listed ts b) w t (value F N (placesOf ts bs)) (N ^ length bs) top)
       (run-high F most (suc M) bs v (next M b w t))
     where
       v : Work
       v = advance N K (find ts b) w
 
-      top : (C m : ℕ) → size C ≤ N → value F N (places bs) C m ≤ N ^ length bs
-      top C m l = rw (length-map bs (find ts)) at (value-most F most N (places bs) C m l)
+      top : (C m : ℕ) → size C ≤ N → value F N (placesOf ts bs) C m ≤ N ^ length bs
+      top C m l = rw (length-map bs (find ts)) at (value-most F most N (placesOf ts bs) C m l)
 
       z : Work
       z = run N K ts bs v
 
       go : (v .aside ≡ whole)
-          ⊎ (N * worth (value F N (places bs)) (v .table) + N * (w .aside * N ^ length bs)
-          ≤ worth (value F N (places (b ∷ bs))) (w .table) + N * (v .aside * N ^ length bs))
+          ⊎ (N * worth (value F N (placesOf ts bs)) (v .table) + N * (w .aside * N ^ length bs)
+          ≤ worth (value F N (placesOf ts (b ∷ bs))) (w .table) + N * (v .aside * N ^ length bs))
           → (z .aside ≡ whole)
-          ⊎ (N ^ length bs * worth F (z .table) + v .aside * N ^ length bs ≤ worth (value F N (places bs)) (v .table) + z .aside * N ^ length bs)
+          ⊎ (N ^ length bs * worth F (z .table) + v .aside * N ^ length bs ≤ worth (value F N (placesOf ts bs)) (v .table) + z .aside * N ^ length bs)
           → (z .aside ≡ whole)
           ⊎ (N ^ suc (length bs) * worth F (z .table) + w .aside * N ^ suc (length bs)
-          ≤ worth (value F N (places (b ∷ bs))) (w .table) + z .aside * N ^ suc (length bs))
+          ≤ worth (value F N (placesOf ts (b ∷ bs))) (w .table) + z .aside * N ^ suc (length bs))
       go (inl e) h = inl (run-stopped (suc M) bs v (next M b w t) e)
       go (inr g) (inl h) = inl h
       go (inr g) (inr h) = inr (rw (pow-succ' N (length bs)) (omega (arith, g, mul-le-mul-left N h)))
 
   pub run-even : (F : ℕ → ℕ → ℕ) (M : ℕ) (bs : List ℕ) (w : Work) → Table N k K M (w .table) → run N K ts bs w .aside ≡ 0
-      → (w .aside ≡ 0) × (N ^ length bs * worth F (run N K ts bs w .table) ≡ worth (value F N (places bs)) (w .table))
+      → (w .aside ≡ 0) × (N ^ length bs * worth F (run N K ts bs w .table) ≡ worth (value F N (placesOf ts bs)) (w .table))
   unfolding run value
   run-even F M [] w t e = (e, rw (pow-zero N) (omega arith))
   run-even F M (b ∷ bs) w t e =
       let v = advance N K (find ts b) w in
       let (p, rest) = run-even F (suc M) bs v (next M b w t) e in
       let (q, here) = advance-even N k K M (find ts b) some (find-listed ts b) w t p in
-      (q, rw (pow-succ' N (length bs)) (omega (arith, here (value F N (places bs)), ap (N *_) rest)))
+      (q, rw (pow-succ' N (length bs)) (omega (arith, here (value F N (placesOf ts bs)), ap (N *_) rest)))

@@ -2,8 +2,8 @@
 -- drawn way holds one block of C or none of it, and whatever else it held was not counted on.
 use mathlib.Core.Path.{_≡_, refl, sym, ap, _∙_, subst}
 use mathlib.Core.Logic.{_≢_, _⊎_, inl, inr}
-use mathlib.Core.Bool.{Bool, true, false, cond, _||_, _&&_, true≢false}
-use mathlib.Core.List.{List, [], _∷_, map}
+use mathlib.Core.Bool.{Bool, true, false, cond, _||_, _&&_, true≢false, and-false}
+use mathlib.Core.List.{List, [], _∷_}
 use Prim.Native.Nat.{ℕ, suc, _+_, _-_, _*_, _≤_, _<_, suc-le-suc}
 use native.Mathlib.Nat.{le-trans, le-step, le-of-eq, sub-add-cancel}
 use native.Mathlib.Decide.{ℕ-discrete}
@@ -12,7 +12,7 @@ use lib.Dec.{eqb}
 use lib.ListN.{length, getD, set, length-set}
 use borrow.Author.Tests.{eq-eqb, ne-eqb}
 use Rattle.basics.specs.Sums.{sumOver}
-use Rattle.basics.proofs.Sums.{sumTo, sumOn, sum-le, sum-const, sum-list, on-eq, on-none, on-beyond, on-point}
+use Rattle.basics.proofs.Sums.{sumTo, sumOn, sum-le, sum-const, sum-list, on-eq, on-none, on-beyond, on-point, part-most}
 use Rattle.machine.specs.Cache.{Way, empty, holding, isHolding, holds, Cache, access}
 use Rattle.machine.proofs.Draws.{total, total-nil, total-cons}
 use Rattle.machine.proofs.Ways.{access-hit, access-miss, holds-new, holds-kept, Fresh, Apart, apart-set}
@@ -25,7 +25,7 @@ use Rattle.rules.proofs.Lookup.{Once, find-at}
 use Rattle.rules.proofs.Step.{overWays, others}
 use Rattle.promises.specs.Ends.{contentsOf}
 use Rattle.promises.proofs.Seen.{bit-contents, contents-lt}
-use Rattle.promises.proofs.Value.{value, Rises, over-places, over-blocks}
+use Rattle.promises.proofs.Value.{value, Rises, over-places, over-blocks, placesOf}
 
 -- C without the block at x, if it has that
 abbrev pub off : ℕ → Place → ℕ
@@ -73,6 +73,8 @@ module _ (ts : List ℕ) (once : Once ts) (few : length ts ≤ places) where
   not-held (holding b) i l n = elsewhere b i l n
 
   module _ (C : ℕ) where
+    -- block i is in C, and one of the ways holds it
+    -- block i is in C, and one of the ways holds it
     abbrev inBoth : List Way → ℕ → Bool
     inBoth ws i = bit C i && holds ws (getD ts i 0)
 
@@ -120,11 +122,7 @@ module _ (ts : List ℕ) (once : Once ts) (few : length ts ≤ places) where
         go false = omega arith
 
     no-ways : (f : ℕ → ℕ) → sumOn (length ts) (inBoth []) f ≡ 0
-    no-ways f = on-none (length ts) (inBoth []) f (λ i l. go (bit C i))
-      where
-        go : (a : Bool) → (a && false) ≡ false
-        go true = refl
-        go false = refl
+    no-ways f = on-none (length ts) (inBoth []) f (λ i l. and-false (bit C i))
 
     all-draws : (g : ℕ → ℕ) (ws : List Way) → Apart ws
         → sumOver (λ w. g (off C (placeOf ts w))) ws + sumOn (length ts) (inBoth ws) (λ i. g C)
@@ -141,11 +139,7 @@ module _ (ts : List ℕ) (once : Once ts) (few : length ts ≤ places) where
 
     one-block : (x : Place) → gain C (λ i. 1) x ≤ 1
     one-block untracked = omega arith
-    one-block (at j) = go (bit C j)
-      where
-        go : (a : Bool) → cond a 1 0 ≤ 1
-        go true = omega arith
-        go false = omega arith
+    one-block (at j) = part-most (bit C j) 1
 
     room : (ws : List Way) → Apart ws → sumOn (length ts) (inBoth ws) (λ i. 1) ≤ length ws
     room [] h = omega (arith, no-ways (λ i. 1))
@@ -237,10 +231,12 @@ module _ (ts : List ℕ) (once : Once ts) (few : length ts ≤ places) where
   -- ---- the machine is at most the value
 
   module _ (F : ℕ → ℕ → ℕ) (N : ℕ) (rises : Rises N F) where
+    -- from every cache that holds at least C and has at most m misses, the machine's sum is at most the value of C with m
+    -- from every cache that holds at least C and has at most m misses, the machine's sum is at most the value of C with m
     abbrev Safe : List ℕ → Type 0
     Safe p =
         (c : Cache) (C m : ℕ) → Apart (c .ways) → length (c .ways) ≡ N → Sub C (contentsOf ts (c .ways)) → c .misses ≤ m
-        → total (seen ts F) N c p ≤ value F N (map (find ts) p) C m
+        → total (seen ts F) N c p ≤ value F N (placesOf ts p) C m
 
     safe-step : (b : ℕ) (p : List ℕ) → Safe p → Safe (b ∷ p)
     unfolding value
@@ -250,7 +246,7 @@ module _ (ts : List ℕ) (once : Once ts) (few : length ts ≤ places) where
         x = find ts b
 
         v : ℕ → ℕ → ℕ
-        v = value F N (map (find ts) p)
+        v = value F N (placesOf ts p)
 
         g : ℕ → ℕ
         g D = v (with D x) (suc m)

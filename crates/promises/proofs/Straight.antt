@@ -27,7 +27,7 @@ use Rattle.rules.proofs.Run.{table-begin}
 use Rattle.rules.proofs.Questions.{above-most, finished-whole}
 use Rattle.promises.specs.Paths.{allTracked}
 use Rattle.promises.proofs.Seen.{contents-start}
-use Rattle.promises.proofs.Value.{value, Rises, sub-zero}
+use Rattle.promises.proofs.Value.{value, Rises, sub-zero, placesOf}
 use Rattle.promises.proofs.Safe.{seen, machine-below}
 use Rattle.promises.proofs.Exact.{machine-equal}
 use Rattle.promises.proofs.Runs.{run-high, run-even}
@@ -38,7 +38,7 @@ module _ (i : Input) (ok : Checked i) where
   N = i .ways
 
   abbrev ahead : (ℕ → ℕ → ℕ) → List ℕ → ℕ
-  ahead F p = value F N (map (find (i .tracked)) p) 0 0
+  ahead F p = value F N (placesOf (i .tracked) p) 0 0
 
   few : length (i .tracked) ≤ places
   few = rw sixteen-places (ok .few-tracked)

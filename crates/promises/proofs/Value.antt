@@ -3,7 +3,7 @@
 -- a fold, are safe for that reason.
 use mathlib.Core.Path.{_≡_, refl, sym, ap, ap₂, _∙_}
 use mathlib.Core.Bool.{Bool, true, false, cond, true≢false}
-use mathlib.Core.List.{List, [], _∷_, _++_}
+use mathlib.Core.List.{List, [], _∷_, _++_, map}
 use Prim.Native.Nat.{ℕ, zero, suc, _+_, _-_, _*_, _^_, _≤_, _<_, suc-le-suc}
 use native.Mathlib.Nat.{le-refl, le-trans, le-step, mul-le-mul-left, pow-zero, pow-succ'}
 use native.Mathlib.Omega.{arith}
@@ -11,10 +11,14 @@ use lib.ListN.{length}
 use Rattle.basics.proofs.Sums.{sumOn, sum-le, sum-add, on-none, sum-each}
 use Rattle.rules.specs.declared.Place.{Place}
 use Rattle.rules.specs.declared.Place.the-variants.{At as at, Untracked as untracked}
-use Rattle.rules.specs.Contents.{places, bit, has, with, without, held, size}
+use Rattle.rules.specs.Contents.{places, bit, has, with, without, held, size, find}
 use Rattle.rules.proofs.Bits.{bit-zero}
 use Rattle.rules.proofs.Contents.{Sub, sum-held, size-zero, size-sub, size-with, size-moved, sub-with, sub-with-has, sub-without, sub-without-both, sub-into-without}
 use Rattle.rules.proofs.Step.{overWays, ahead, others, overWays-each}
+
+-- where the accessed blocks bs stand in the list of tracked blocks
+abbrev pub placesOf : List ℕ → List ℕ → List Place
+placesOf ts bs = map (find ts) bs
 
 -- F summed over the N ^ (length p) draws of the places p, from contents C with m misses
 unfoldable pub value : (ℕ → ℕ → ℕ) → ℕ → List Place → ℕ → ℕ → ℕ

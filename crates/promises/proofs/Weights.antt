@@ -8,6 +8,7 @@ use native.Mathlib.Nat.{le-refl}
 use native.Mathlib.Omega.{arith}
 use lib.Dec.{eqb, ltb}
 use borrow.Author.Tests.{ltb-true, ltb-false}
+use Rattle.basics.proofs.Sums.{part-most}
 use Rattle.basics.specs.Sums.{sumOver}
 use Rattle.machine.specs.Cache.{start}
 use Rattle.machine.specs.Draws.{count}
@@ -21,19 +22,15 @@ use Rattle.promises.proofs.Value.{Rises}
 use Rattle.promises.proofs.Safe.{seen}
 
 -- 1 where the test passes
-abbrev pub if : (ℕ → ℕ → Bool) → ℕ → ℕ → ℕ
-if test C m = cond (test C m) 1 0
+abbrev pub oneWhere : (ℕ → ℕ → Bool) → ℕ → ℕ → ℕ
+oneWhere test C m = cond (test C m) 1 0
 
-pub if-most : (test : ℕ → ℕ → Bool) (C m : ℕ) → if test C m ≤ 1
-if-most test C m = go (test C m)
-  where
-    go : (b : Bool) → cond b 1 0 ≤ 1
-    go true = le-refl 1
-    go false = zero-le
+pub one-most : (test : ℕ → ℕ → Bool) (C m : ℕ) → oneWhere test C m ≤ 1
+one-most test C m = part-most (test C m) 1
 
-worth-if : (test : ℕ → ℕ → Bool) (T : List State) → worth (if test) T ≡ sumOver (λ s. cond (test (s .mask) (s .misses)) (unitsOf s) 0) T
-worth-if test [] = refl
-worth-if test (s ∷ T) = go (test (s .mask) (s .misses)) (worth-if test T)
+worth-one : (test : ℕ → ℕ → Bool) (T : List State) → worth (oneWhere test) T ≡ sumOver (λ s. cond (test (s .mask) (s .misses)) (unitsOf s) 0) T
+worth-one test [] = refl
+worth-one test (s ∷ T) = go (test (s .mask) (s .misses)) (worth-one test T)
   where
     go : (b : Bool) {x y : ℕ} → x ≡ y → unitsOf s * cond b 1 0 + x ≡ cond b (unitsOf s) 0 + y
     go true e = omega arith
@@ -44,7 +41,7 @@ worth-if test (s ∷ T) = go (test (s .mask) (s .misses)) (worth-if test T)
 abbrev pub overIs : ℕ → ℕ → ℕ → Bool
 overIs B C m = ltb B m
 
-pub over-rises : (N B : ℕ) → Rises N (if (overIs B))
+pub over-rises : (N B : ℕ) → Rises N (oneWhere (overIs B))
 over-rises N B C D m n s l small = go (ltb B n) (ltb B m) refl refl
   where
     go : (a b : Bool) → ltb B n ≡ a → ltb B m ≡ b → cond a 1 0 ≤ cond b 1 0
@@ -52,11 +49,11 @@ over-rises N B C D m n s l small = go (ltb B n) (ltb B m) refl refl
     go true false p q = omega (arith, ltb-true B n p, ltb-false B m q)
     go false b p q = zero-le
 
-pub worth-above : (B : ℕ) (T : List State) → worth (if (overIs B)) T ≡ above B T
+pub worth-above : (B : ℕ) (T : List State) → worth (oneWhere (overIs B)) T ≡ above B T
 unfolding above
-worth-above B T = worth-if (overIs B) T
+worth-above B T = worth-one (overIs B) T
 
-pub count-over : (ts : List ℕ) (B N : ℕ) (p : List ℕ) → count (over B) N p ≡ total (seen ts (if (overIs B))) N (start N) p
+pub count-over : (ts : List ℕ) (B N : ℕ) (p : List ℕ) → count (over B) N p ≡ total (seen ts (oneWhere (overIs B))) N (start N) p
 unfolding count total
 count-over ts B N p = refl
 
@@ -65,10 +62,10 @@ count-over ts B N p = refl
 abbrev pub atIs : ℕ → ℕ → ℕ → ℕ → Bool
 atIs C m D n = eqb D C && eqb n m
 
-pub worth-with : (C m : ℕ) (T : List State) → worth (if (atIs C m)) T ≡ unitsWith C m T
+pub worth-with : (C m : ℕ) (T : List State) → worth (oneWhere (atIs C m)) T ≡ unitsWith C m T
 unfolding unitsWith
-worth-with C m T = worth-if (atIs C m) T
+worth-with C m T = worth-one (atIs C m) T
 
-pub count-with : (ts : List ℕ) (C m N : ℕ) (p : List ℕ) → count (endsWith ts C m) N p ≡ total (seen ts (if (atIs C m))) N (start N) p
+pub count-with : (ts : List ℕ) (C m N : ℕ) (p : List ℕ) → count (endsWith ts C m) N p ≡ total (seen ts (oneWhere (atIs C m))) N (start N) p
 unfolding count total
 count-with ts C m N p = refl

@@ -2,17 +2,16 @@
 -- the edges, from the front, or through the node numbers from the top; what is left always gives the same answer as the whole, w.
 use mathlib.Core.Path.{_≡_, refl, sym, ap, _∙_}
 use mathlib.Core.Logic.{_≢_}
-use mathlib.Core.Bool.{Bool, true, false, _&&_, _||_, not, true≢false}
+use mathlib.Core.Bool.{Bool, true, false, _&&_, not, true≢false, and-false}
 use mathlib.Core.List.{List, [], _∷_}
 use Prim.Native.Nat.{ℕ, zero, suc, _+_, _-_, _%_, _≤_, _<_}
 use native.Mathlib.Nat.{add-zero}
 use native.Mathlib.Numerals.{add-one, add-two}
 use native.Mathlib.Omega.{arith}
-use borrow.Author.Tests.{ltb-false, eq-eqb, ne-eqb}
-use lib.Dec.{eqb, ltb}
+use borrow.Author.Tests.{eq-eqb, ne-eqb}
+use lib.Dec.{eqb}
 use lib.ListN.{length, getD, take, drop, length-drop}
 use lib.Seq.{drop-cons, take-all}
-use Rattle.basics.proofs.Bools.{not-right}
 use Rattle.basics.proofs.Lists.{list-next}
 use Rattle.rules.specs.declared.Refusal.the-variants.{Text}
 use Rattle.rules.specs.declared.Verdict.the-variants.{Refused}
@@ -20,14 +19,9 @@ use Rattle.rules.specs.Answers.{Reason, when, first}
 use Rattle.rules.specs.Contents.{among, once}
 use Rattle.rules.specs.Ordered.{isBefore, rises}
 use Rattle.rules.specs.Input.{Input, Edge, edgesOf}
-use Rattle.rules.specs.Refusals.{outside, inPairs, forward, edgeOrder, eachBelow, entered, left, edgesKept, reasons, verdict}
+use Rattle.rules.specs.Refusals.{inPairs, forward, edgeOrder, eachBelow, hasEdgeIn, hasEdgeOut, edgesKept, reasons, verdict}
 use Rattle.rules.proofs.Ordered.{rises-next}
 use Rattle.refusals.specs.Edges.{sideOf}
-
--- ---- a number within its range
-
-pub not-above : (low high n : ℕ) → outside low high n ≡ false → n ≤ high
-not-above low high n h = ltb-false high n (not-right (ltb n low) (ltb high n) h)
 
 -- ---- through a list
 
@@ -101,17 +95,13 @@ below-end test (suc (suc j)) w rest h t = absurd (omega arith)
 
 -- ---- the edge rules together
 
--- each rule that is broken breaks them all
-and-false : (a : Bool) → (a && false) ≡ false
-and-false true = refl
-and-false false = refl
-
 -- numbers in pairs are an even number of numbers
 pairs-even : (ns : List ℕ) → inPairs ns ≡ eqb (length ns % 2) 0
 pairs-even [] = refl
 pairs-even (a ∷ []) = refl
 pairs-even (a ∷ b ∷ ns) = let two : suc (suc (length ns)) % 2 ≡ length ns % 2 = omega arith in rw two (pairs-even ns)
 
+-- each rule that is broken breaks them all
 module _ (n : ℕ) (ns : List ℕ) where
   pub unpaired : length ns % 2 ≢ 0 → false ≡ edgesKept n ns
   unfolding edgesKept
@@ -125,14 +115,14 @@ module _ (n : ℕ) (ns : List ℕ) where
   unfolding edgesKept
   not-rising h = rw (h, and-false (inPairs ns && forward n (edgesOf ns)))
 
-  pub not-entered : entered n (edgesOf ns) ≡ false → false ≡ edgesKept n ns
+  pub no-edge-in : hasEdgeIn n (edgesOf ns) ≡ false → false ≡ edgesKept n ns
   unfolding edgesKept
-  not-entered h = rw (h, and-false (inPairs ns && forward n (edgesOf ns) && rises edgeOrder (edgesOf ns)))
+  no-edge-in h = rw (h, and-false (inPairs ns && forward n (edgesOf ns) && rises edgeOrder (edgesOf ns)))
 
-  pub all-but-left : length ns % 2 ≡ 0 → forward n (edgesOf ns) ≡ true → rises edgeOrder (edgesOf ns) ≡ true → entered n (edgesOf ns) ≡ true
-      → left n (edgesOf ns) ≡ edgesKept n ns
+  pub all-but-edges-out : length ns % 2 ≡ 0 → forward n (edgesOf ns) ≡ true → rises edgeOrder (edgesOf ns) ≡ true → hasEdgeIn n (edgesOf ns) ≡ true
+      → hasEdgeOut n (edgesOf ns) ≡ edgesKept n ns
   unfolding edgesKept
-  all-but-left p f r e = rw (pairs-even ns, eq-eqb _ _ p, f, r, e)
+  all-but-edges-out p f r e = rw (pairs-even ns, eq-eqb _ _ p, f, r, e)
 
 -- ---- the table of reasons
 
@@ -164,7 +154,3 @@ refused {k} {i} p h = sym (here (reasons i) k h) ∙ p .rest
     here [] k h = absurd (true≢false (sym h))
     here (r ∷ rs) zero h = rw h
     here (r ∷ rs) (suc k) h = here rs k h
-
--- a reason with two parts, of which only the second holds
-pub second-part : (a b : Bool) → a ≡ false → b ≡ true → (a || b) ≡ true
-second-part a b h l = rw h l

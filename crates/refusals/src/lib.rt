@@ -11,8 +11,8 @@ ghost use lib.ListN.{length};
 ghost use Rattle.basics.specs.Sums.{sumOver};
 ghost use Rattle.rules.specs.Contents.{among, once};
 ghost use Rattle.rules.specs.Ordered.{rises};
-ghost use Rattle.rules.specs.Input.{edgesOf};
-ghost use Rattle.rules.specs.Refusals.{outside, forward, edgeOrder, entered, left, edgesKept, verdict};
+ghost use Rattle.rules.specs.Input.{edgesOf, inputIn};
+ghost use Rattle.rules.specs.Refusals.{outside, forward, edgeOrder, hasEdgeIn, hasEdgeOut, edgesKept, verdict};
 ghost use Rattle.refusals.specs.Edges.{sideOf};
 
 // Whether `n` is not one of `low` .. `high`.
@@ -121,8 +121,8 @@ fn ends(edges: &[u32], side: usize, j: usize) -> bool
 }
 
 // Whether each of the `n` nodes but node 0 has an edge in.
-fn entered(edges: &[u32], n: usize) -> bool
-    ensures { λ r. ⌜ r ≡ entered n (edgesOf (now (edges .entry))) ⌝ }
+fn has_edge_in(edges: &[u32], n: usize) -> bool
+    ensures { λ r. ⌜ r ≡ hasEdgeIn n (edgesOf (now (edges .entry))) ⌝ }
 {
     let mut j: usize = n;
     while 1 < j {
@@ -136,8 +136,8 @@ fn entered(edges: &[u32], n: usize) -> bool
 }
 
 // Whether each of the `n` nodes but the last has an edge out.
-fn left(edges: &[u32], n: usize) -> bool
-    ensures { λ r. ⌜ r ≡ left n (edgesOf (now (edges .entry))) ⌝ }
+fn has_edge_out(edges: &[u32], n: usize) -> bool
+    ensures { λ r. ⌜ r ≡ hasEdgeOut n (edgesOf (now (edges .entry))) ⌝ }
 {
     if n == 0 {
         return true;
@@ -166,10 +166,10 @@ fn edges_kept(edges: &[u32], n: usize) -> bool
     if !rising(edges) {
         return false;
     }
-    if !entered(edges, n) {
+    if !has_edge_in(edges, n) {
         return false;
     }
-    left(edges, n)
+    has_edge_out(edges, n)
 }
 
 // Whether the graph is refused: by its node count, its run lengths or its edges.
@@ -196,7 +196,7 @@ pub fn judge(
     result_room: usize,
     working_room: usize,
 ) -> Verdict
-    ensures { λ r. ⌜ r ≡ verdict (record { ways = ways; limit = limit; tracked = now (tracked .entry); lengths = now (runs .entry); accesses = now (accesses .entry); edges = now (edges .entry); resultRoom = «result_room»; workingRoom = «working_room» }) ⌝ }
+    ensures { λ r. ⌜ r ≡ verdict (inputIn ways limit (now (tracked .entry)) (now (runs .entry)) (now (accesses .entry)) (now (edges .entry)) «result_room» «working_room») ⌝ }
 {
     if outside(1, 16, ways as u64) {
         return Verdict::Refused(Refusal::Ways);

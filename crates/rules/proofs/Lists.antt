@@ -1,4 +1,4 @@
--- A property of every element of a list, of any kind.
+-- A property of every element of a list; the length of a list with one element removed; that the best of a list stands in it.
 use mathlib.Core.Path.{_≡_, refl, ap}
 use mathlib.Core.Bool.{Bool, true, false, cond}
 use mathlib.Core.List.{List, [], _∷_, _++_, map, flatMap}

@@ -17,12 +17,12 @@ use lib.Seq.{take-all, take-append-le, getD-at, getD-set-same, getD-set-other, e
 use borrow.Author.Tests.{ltb-true, ltb-false, leb-true, leb-false, eqb-true, eqb-false, lt-ltb, le-ltb, le-leb, lt-leb, eq-eqb, ne-eqb}
 use Rattle.basics.specs.Sums.{sumOver}
 use Rattle.basics.proofs.Bools.{and-left, and-right, both}
-use Rattle.basics.proofs.Sums.{sum-append}
+use Rattle.basics.proofs.Sums.{sum-append, part-most}
 use Rattle.rules.specs.declared.Refusal.the-variants.{Row, SpreadRoom}
 use Rattle.rules.specs.declared.Amount.the-variants.{Units, Refused as RefusedAmount}
 use Rattle.rules.specs.declared.Count.the-variants.{Misses, Refused as RefusedCount}
 use Rattle.rules.specs.Units.{whole, units}
-use Rattle.rules.specs.Answers.{outcomeSays}
+use Rattle.rules.specs.Answers.{outcomeSays, amountSays}
 use Rattle.rules.specs.Input.{Input, nodes}
 use Rattle.rules.specs.Table.{State, unitsOf, rising, total, stateAt}
 use Rattle.rules.specs.Graph.{finished}
@@ -31,11 +31,6 @@ use Rattle.rules.specs.Refusals.{outcome}
 use Rattle.rules.specs.Shape.{Every, Shaped, Table}
 use Rattle.rules.proofs.Refusals.{Checked, accepted}
 use Rattle.rules.proofs.Graph.{finished-table, node-table}
-
--- a part of some units is not more
-part-most : (b : Bool) (u : ℕ) → cond b u 0 ≤ u
-part-most true u = le-refl u
-part-most false u = zero-le
 
 -- ---- the units above a budget
 
@@ -318,6 +313,10 @@ module _ (T : List State) where
   pub above-answered : isTable T ≡ true → (B u : ℕ) → u ≡ above B T → Units (units u) ≡ aboveAnswer T B
   unfolding aboveAnswer
   above-answered h B u e = rw (h, e)
+
+  -- what that says, in document 01's numbers
+  pub above-says : isTable T ≡ true → (B : ℕ) → amountSays (aboveAnswer T B) ≡ record { number = 0; value = above B T }
+  above-says h B = ap amountSays (sym (above-answered h B (above B T) refl))
 
   pub budget-answered : isTable T ≡ true → (u B : ℕ) → B ≡ smallestBudget u T → Misses B ≡ budgetAnswer T u
   unfolding budgetAnswer

@@ -19,7 +19,7 @@ use Rattle.rules.specs.Contents.{among, once}
 use Rattle.rules.specs.Ordered.{before, byNumber, rises}
 use Rattle.rules.specs.Input.{Input, nodes, Edge, edgesOf, predecessors}
 use Rattle.rules.specs.Graph.{finished}
-use Rattle.rules.specs.Refusals.{outside, forward, inPairs, edgeOrder, entered, left, edgesKept, reasons, verdict, answered, outcome}
+use Rattle.rules.specs.Refusals.{outside, forward, inPairs, edgeOrder, hasEdgeIn, hasEdgeOut, edgesKept, reasons, verdict, answered, outcome}
 use Rattle.rules.specs.Shape.{Every}
 use Rattle.rules.proofs.Ordered.{InOrder, in-order-rises, rises-in-order, number-before, two-before, two-onward}
 
@@ -62,7 +62,7 @@ pub record Checked (i : Input) : Type 0 where
   pub result-room : i .limit ≤ i .resultRoom
   pub working-room : 5184 ≤ i .workingRoom
 
-within : (low high n : ℕ) → outside low high n ≡ false → (low ≤ n) × (n ≤ high)
+pub within : (low high n : ℕ) → outside low high n ≡ false → (low ≤ n) × (n ≤ high)
 within low high n h =
     (ltb-false n low (not-left (ltb n low) (ltb high n) h), ltb-false high n (not-right (ltb n low) (ltb high n) h))
 
@@ -158,7 +158,7 @@ forward-pred n (x ∷ es) h i j e =
 edges-are : (n : ℕ) (ns : List ℕ) → edgesKept n ns ≡ true → (forward n (edgesOf ns) ≡ true) × (rises edgeOrder (edgesOf ns) ≡ true)
 unfolding edgesKept
 edges-are n ns h =
-    let both = and-left (inPairs ns && forward n es && rises edgeOrder es) (entered n es) (and-left _ (left n es) h) in
+    let both = and-left (inPairs ns && forward n es && rises edgeOrder es) (hasEdgeIn n es) (and-left _ (hasEdgeOut n es) h) in
     (and-right (inPairs ns) (forward n es) (and-left (inPairs ns && forward n es) (rises edgeOrder es) both), and-right (inPairs ns && forward n es) (rises edgeOrder es) both)
   where
     es : List Edge

@@ -6,10 +6,8 @@ use mathlib.Core.List.{List, [], _∷_, _++_}
 use Prim.Native.Nat.{ℕ, zero, suc, _-_, _≤_}
 use native.Mathlib.Nat.{le-refl}
 use native.Mathlib.Omega.{arith}
-use borrow.Author.Tests.{ltb-false, le-ltb}
-use lib.Dec.{ltb}
+use borrow.Author.Tests.{le-ltb}
 use lib.ListN.{length}
-use Rattle.basics.proofs.Bools.{not-right}
 use Rattle.rules.specs.declared.Verdict.{Verdict}
 use Rattle.rules.specs.declared.Verdict.the-variants.{Accepted, Refused}
 use Rattle.rules.specs.declared.Outcome.the-variants.{Finished}
@@ -18,6 +16,7 @@ use Rattle.rules.specs.Input.{Input, inputIn, inputOf, runOf}
 use Rattle.rules.specs.Table.{Work}
 use Rattle.rules.specs.Graph.{Worked, tableAt, node, worked, finished}
 use Rattle.rules.specs.Refusals.{outside, reasons, verdict, answered, outcome}
+use Rattle.rules.proofs.Refusals.{within}
 
 answered-alike : (v : Verdict) (i j : Input) → finished i ≡ finished j → answered v i ≡ answered v j
 answered-alike Accepted i j e = ap (λ (d : Work). Finished (length (d .table)) (units (d .aside))) e
@@ -42,7 +41,7 @@ module _ (N K : ℕ) (ts ns bs es : List ℕ) (r w : ℕ) where
         go : (b : Bool) → outside 1 64 K ≡ b → verdict (inputOf N K ts ns bs es) ≡ verdict (inputIn N K ts ns bs es r w)
         go true e = rw e
         go false e =
-            let few : K ≤ 64 = ltb-false 64 K (not-right (ltb K 1) (ltb 64 K) e) in
+            let few : K ≤ 64 = within 1 64 K e .1 in
             rw (le-ltb K K (le-refl K), le-ltb r K (omega arith), le-ltb w 5184 working)
 
     pub same-outcome : outcome (inputOf N K ts ns bs es) ≡ outcome (inputIn N K ts ns bs es r w)

@@ -51,7 +51,7 @@ module _ (N k K : ℕ) (some : 0 < N) (room : 0 < K) where
         full = refl;
       }
 
-  -- folds make a table of more than K states
+  -- folds make a table of at most K states of any rising list of shaped states that total WHOLE
   pub table-folded : (M : ℕ) (w : Work) → Rising (w .table) → Every (Shaped N k M) (w .table) → total (w .table) ≡ whole
       → Table N k K M (folded K w .table)
   table-folded M w r s e =

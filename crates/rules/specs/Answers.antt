@@ -32,6 +32,7 @@ pub record Reason : Type 0 where
   pub applies : Bool
   pub gives : Refusal
 
+-- r is given where b holds
 abbrev pub when : Bool → Refusal → Reason
 when b r = record { applies = b; gives = r }
 

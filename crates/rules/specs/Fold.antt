@@ -56,6 +56,7 @@ foldAt p w =
       aside = more (w .aside) (changed s m + changed t m);
     }
 
+-- one fold, of the two states that document 01 chooses
 unfoldable pub fold : Work → Work
 fold w = foldAt (choice (w .table)) w
 
@@ -67,5 +68,6 @@ foldsOf zero enough K w = w
 foldsOf (suc n) true K w = w
 foldsOf (suc n) false K w = let v = fold w in foldsOf n (leb (length (v .table)) K) K v
 
+-- folded until at most K states are left
 unfoldable pub folded : ℕ → Work → Work
 folded K w = foldsOf (length (w .table)) (leb (length (w .table)) K) K w

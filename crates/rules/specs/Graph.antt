@@ -13,6 +13,7 @@ pub record Worked : Type 0 where
   pub tables : List (List State)
   pub aside : ℕ
 
+-- node j's table; none where it is not worked yet
 abbrev pub tableAt : Worked → ℕ → List State
 tableAt d j = getD (d .tables) j []
 
@@ -21,7 +22,8 @@ unfoldable pub joinAll : ℕ → Worked → List ℕ → Work → Work
 joinAll K d [] w = w
 joinAll K d (p ∷ ps) w = joinAll K d ps (folded K (record { table = join (w .table) (tableAt d p); aside = w .aside }))
 
--- what a node starts from, whose predecessors are ps: the lowest one's table, with the others joined to it; node 0 from the start
+-- what a node starts from, whose predecessors are ps: the first one's table (the lowest: `predecessors-rise` in proofs/Refusals.antt), with the others joined to
+-- it; node 0 from the start
 unfoldable pub enter : ℕ → Worked → List ℕ → Work
 enter K d [] = record { table = begin; aside = d .aside }
 enter K d (p ∷ ps) = joinAll K d ps (record { table = tableAt d p; aside = d .aside })
@@ -30,7 +32,7 @@ enter K d (p ∷ ps) = joinAll K d ps (record { table = tableAt d p; aside = d .
 unfoldable pub node : Input → ℕ → Worked → Work
 node i j d = run (i .ways) (i .limit) (i .tracked) (runOf i j) (enter (i .limit) d (predecessors (edgesOf (i .edges)) j))
 
--- the first n nodes
+-- so many nodes from the first on, worked in order
 unfoldable pub worked : Input → ℕ → Worked
 worked i zero = record { tables = []; aside = 0 }
 worked i (suc j) =

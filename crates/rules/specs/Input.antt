@@ -49,6 +49,7 @@ runOf i j = take (getD (i .lengths) j 0) (drop (offset (i .lengths) j) (i .acces
 
 -- ---- edges
 
+-- from a node, to a node
 pub record Edge : Type 0 where
   pub from : ℕ
   pub to : ℕ

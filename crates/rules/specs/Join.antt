@@ -48,5 +48,6 @@ walk (suc n) i j (s ∷ S) (t ∷ T) =
 unfoldable pub fromFront : List State → List State → List Match
 fromFront S T = walk (length S + length T) 0 0 S T
 
+-- document 01's join: both tables from the front
 unfoldable pub join : List State → List State → List State
 join S T = paired (fromFront S T) S T

@@ -7,7 +7,7 @@ use lib.Dec.{eqb, ltb}
 pub use Rattle.rules.specs.declared.Order.{Order}
 pub use Rattle.rules.specs.declared.Order.the-variants.{Before as before, Same as same, After as after}
 
--- two numbers
+-- how two numbers stand to each other
 abbrev pub byNumber : ℕ → ℕ → Order
 byNumber a b = cond (ltb a b) before (cond (eqb a b) same after)
 

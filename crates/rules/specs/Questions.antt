@@ -22,6 +22,7 @@ use Rattle.rules.specs.Table.{State, unitsOf, rising, total}
 abbrev pub fitting : State → Bool
 fitting s = leb (s .mask) 65535 && leb (s .misses) 4096 && leb 1 (unitsOf s)
 
+-- each state is
 abbrev pub allFitting : List State → Bool
 allFitting [] = true
 allFitting (s ∷ T) = fitting s && allFitting T
@@ -70,22 +71,27 @@ smallestBudget u T = least (λ B. leb (above B T) u) (largest T)
 
 -- ---- the answers: 7 for a row that is no table, then 8 for room that is too short
 
+-- 7: the row is no table
 abbrev pub rowReason : List State → Reason
 rowReason row = when (not (isTable row)) Row
 
-abbrev pub amount : Verdict → ℕ → Amount
-amount Accepted u = AmountOf (units u)
-amount (Refused r) u = RefusedAmount r
+-- the units, or the refusal
+abbrev pub amountOr : Verdict → ℕ → Amount
+amountOr Accepted u = AmountOf (units u)
+amountOr (Refused r) u = RefusedAmount r
 
+-- what is answered about the units above B
 unfoldable pub aboveAnswer : List State → ℕ → Amount
-aboveAnswer row B = amount (first (rowReason row ∷ [])) (above B row)
+aboveAnswer row B = amountOr (first (rowReason row ∷ [])) (above B row)
 
-abbrev pub misses : Verdict → ℕ → Count
-misses Accepted m = Misses m
-misses (Refused r) m = RefusedCount r
+-- the miss count, or the refusal
+abbrev pub countOr : Verdict → ℕ → Count
+countOr Accepted m = Misses m
+countOr (Refused r) m = RefusedCount r
 
+-- what is answered about the smallest budget for u units
 unfoldable pub budgetAnswer : List State → ℕ → Count
-budgetAnswer row u = misses (first (rowReason row ∷ [])) (smallestBudget u row)
+budgetAnswer row u = countOr (first (rowReason row ∷ [])) (smallestBudget u row)
 
 -- what the spread answers, the largest miss count, and what it leaves in the lent room: the units at each count and then zeros; a
 -- refusal leaves the room as it was
@@ -98,5 +104,6 @@ spreadInto Accepted row room =
     record { answer = Misses (largest row); room = spread row ++ replicate (length room - suc (largest row)) 0 }
 spreadInto (Refused r) row room = record { answer = RefusedCount r; room = room }
 
+-- 7, then 8, then the spread
 unfoldable pub spreadAnswer : List State → List ℕ → SpreadAnswer
 spreadAnswer row room = spreadInto (first (rowReason row ∷ when (ltb (length room) (suc (largest row))) SpreadRoom ∷ [])) row room

@@ -44,16 +44,16 @@ eachBelow zero test = true
 eachBelow (suc n) test = test n && eachBelow n test
 
 -- every node but 0 has an edge in
-abbrev pub entered : ℕ → List Edge → Bool
-entered n es = eachBelow n (λ j. eqb j 0 || among (map (λ e. e .to) es) j)
+abbrev pub hasEdgeIn : ℕ → List Edge → Bool
+hasEdgeIn n es = eachBelow n (λ j. eqb j 0 || among (map (λ e. e .to) es) j)
 
 -- every node but the last has an edge out
-abbrev pub left : ℕ → List Edge → Bool
-left n es = eachBelow n (λ j. eqb (suc j) n || among (map (λ e. e .from) es) j)
+abbrev pub hasEdgeOut : ℕ → List Edge → Bool
+hasEdgeOut n es = eachBelow n (λ j. eqb (suc j) n || among (map (λ e. e .from) es) j)
 
 -- the flat list of a graph of n nodes keeps every edge rule
 unfoldable pub edgesKept : ℕ → List ℕ → Bool
-edgesKept n ns = let es = edgesOf ns in inPairs ns && forward n es && rises edgeOrder es && entered n es && left n es
+edgesKept n ns = let es = edgesOf ns in inPairs ns && forward n es && rises edgeOrder es && hasEdgeIn n es && hasEdgeOut n es
 
 -- ---- the table of section 5
 
@@ -70,6 +70,7 @@ reasons i =
     ∷ when (ltb (i .resultRoom) (i .limit) || ltb (i .workingRoom) 5184) Room
     ∷ []
 
+-- the first reason that applies
 unfoldable pub verdict : Input → Verdict
 verdict i = first (reasons i)
 
@@ -79,5 +80,6 @@ abbrev pub answered : Verdict → Input → Outcome
 answered Accepted i = let w = finished i in Finished (length (w .table)) (units (w .aside))
 answered (Refused r) i = RefusedOutcome r
 
+-- the answer: a refusal, or how many states there are and what is set aside
 unfoldable pub outcome : Input → Outcome
 outcome i = answered (verdict i) i

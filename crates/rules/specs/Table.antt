@@ -13,6 +13,7 @@ use Rattle.rules.specs.Ordered.{Order, byTwo, rises, insertAll}
 abbrev pub state : ℕ → ℕ → ℕ → State
 state C m u = record { mask = C; misses = m; units = units u }
 
+-- its units as a number
 abbrev pub unitsOf : State → ℕ
 unitsOf s = s .units .0
 

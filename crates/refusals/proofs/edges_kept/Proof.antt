@@ -2,7 +2,7 @@
 use mathlib.Core.Path.{sym, _∙_}
 use borrow.Author.Needs.{needs}
 use borrow.Author.Tests.{not-true, not-false}
-use Rattle.refusals.proofs.Reasons.{unpaired, not-forward, not-rising, not-entered, all-but-left}
+use Rattle.refusals.proofs.Reasons.{unpaired, not-forward, not-rising, no-edge-in, all-but-edges-out}
 use Rattle.refusals.proofs.edges_kept.Statement.{statement}
 use Rattle.refusals.proofs.edges_kept.Tie as tie
 
@@ -16,18 +16,18 @@ returns-3 : tie.Need-returns-3
 returns-3 c = not-rising _ _ (sym (c .before .rising .ensures) ∙ not-true _ (c .if3 .taken))
 
 returns-4 : tie.Need-returns-4
-returns-4 c = not-entered _ _ (sym (c .before .entered .ensures) ∙ not-true _ (c .if4 .taken))
+returns-4 c = no-edge-in _ _ (sym (c .before .has-edge-in .ensures) ∙ not-true _ (c .if4 .taken))
 
 returns-5 : tie.Need-returns-5
 returns-5 c =
     let e = c .before .before in
     let r = e .before .before in
     let f = r .before .before in
-    c .left .ensures
-    ∙ all-but-left _ _ (f .before .if1 .left)
+    c .has-edge-out .ensures
+    ∙ all-but-edges-out _ _ (f .before .if1 .left)
     (sym (f .forward .ensures) ∙ not-false _ (r .before .if2 .left))
     (sym (r .rising .ensures) ∙ not-false _ (e .before .if3 .left))
-    (sym (e .entered .ensures) ∙ not-false _ (c .before .if4 .left))
+    (sym (e .has-edge-in .ensures) ∙ not-false _ (c .before .if4 .left))
 
 pub edges-kept-spec : {M : Type 1} → statement M
 edges-kept-spec =

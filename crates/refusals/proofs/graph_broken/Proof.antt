@@ -4,7 +4,7 @@ use mathlib.Core.Path.{sym, ap, _∙_}
 use mathlib.Core.Bool.{not}
 use borrow.Author.Needs.{needs}
 use borrow.Author.Tests.{eq-eqb, ne-eqb}
-use Rattle.refusals.proofs.Reasons.{not-above}
+use Rattle.rules.proofs.Refusals.{within}
 use Rattle.refusals.proofs.graph_broken.Statement.{statement}
 use Rattle.refusals.proofs.graph_broken.Tie as tie
 
@@ -12,7 +12,7 @@ returns : tie.Need-returns
 returns c = rw (sym (c .before .outside .ensures) ∙ c .if1 .taken)
 
 sum-requires : tie.Need-sum-requires
-sum-requires c κs = not-above 1 64 _ (sym (c .before .outside .ensures) ∙ c .if1 .left)
+sum-requires c κs = within 1 64 _ (sym (c .before .outside .ensures) ∙ c .if1 .left) .1
 
 returns-2 : tie.Need-returns-2
 returns-2 c =

@@ -5,10 +5,12 @@ use mathlib.Core.Bool.{not}
 use borrow.Author.Needs.{needs}
 use borrow.Author.Tests.{lt-ltb, le-ltb}
 use denote.Ref.{now}
-use Rattle.basics.proofs.Bools.{or-left, neither}
-use Rattle.rules.specs.Input.{Input}
+use lib.Dec.{ltb}
+use lib.ListN.{length}
+use Rattle.basics.proofs.Bools.{or-left, or-right, neither}
+use Rattle.rules.specs.Input.{Input, inputIn}
 use Rattle.rules.specs.Refusals.{reasons}
-use Rattle.refusals.proofs.Reasons.{Passed, none-passed, one-more, refused, second-part}
+use Rattle.refusals.proofs.Reasons.{Passed, none-passed, one-more, refused}
 use Rattle.refusals.proofs.judge.Statement.{statement}
 use Rattle.refusals.proofs.judge.Tie as tie
 
@@ -16,16 +18,7 @@ use Rattle.refusals.proofs.judge.Tie as tie
 abbrev given : tie.Start → Input
 given s =
     let a = s .args in
-    record {
-      ways = a .ways;
-      limit = a .limit;
-      tracked = now (a .tracked);
-      lengths = now (a .runs);
-      accesses = now (a .accesses);
-      edges = now (a .edges);
-      resultRoom = a .result-room;
-      workingRoom = a .working-room;
-    }
+    inputIn (a .ways) (a .limit) (now (a .tracked)) (now (a .runs)) (now (a .accesses)) (now (a .edges)) (a .result-room) (a .working-room)
 
 -- ---- the reasons that do not apply
 
@@ -69,8 +62,8 @@ returns-3 c = refused (limit-kept (c .before)) (or-left _ _ (lt-ltb _ _ (c .if3 
 returns-4 : tie.Need-returns-4
 unfolding reasons
 returns-4 c =
-    let f = c .before .before in
-    refused (limit-kept (f .before)) (second-part _ _ (le-ltb _ _ (f .if3 .left)) (ap not (sym (c .before .once .ensures)) ∙ c .if4 .taken))
+    let i = given (c .before .before .before .before .before .before .before .before .before .before .before) in
+    refused (limit-kept (c .before .before .before)) (or-right (ltb 16 (length (i .tracked))) _ (ap not (sym (c .before .once .ensures)) ∙ c .if4 .taken))
 
 returns-5 : tie.Need-returns-5
 unfolding reasons
@@ -87,7 +80,8 @@ returns-7 c = refused (graph-kept (c .before)) (or-left _ _ (lt-ltb _ _ (c .if7 
 returns-8 : tie.Need-returns-8
 unfolding reasons
 returns-8 c =
-    refused (graph-kept (c .before .before)) (second-part _ _ (le-ltb _ _ (c .before .if7 .left)) (lt-ltb _ _ (c .if8 .taken)))
+    let i = given (c .before .before .before .before .before .before .before .before .before .before .before .before .before .before .before .before) in
+    refused (graph-kept (c .before .before)) (or-right (ltb (i .resultRoom) (i .limit)) _ (lt-ltb _ _ (c .if8 .taken)))
 
 returns-9 : tie.Need-returns-9
 unfolding reasons

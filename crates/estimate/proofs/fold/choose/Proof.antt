@@ -50,7 +50,7 @@ search-again c =
 load-requires-4 : tie.Need-load-requires-4 Inv-loop μ-loop Inv-search μ-search
 load-requires-4 c κs = let b = c .before .before .before in
     let a = b .before .before .before .before .args in
-    let within : c .place-of .result < a .n = other-within (b .search .fewest) 0 (c .place-of .result) (a .n) (c .place-of .ensures) (omega arith) in
+    let within : c .place-past .result < a .n = other-within (b .search .fewest) 0 (c .place-past .result) (a .n) (c .place-past .ensures) (omega arith) in
     omega arith
 
 loop-holds : tie.Need-loop-holds Inv-loop μ-loop Inv-search μ-search
@@ -59,7 +59,7 @@ loop-holds c =
     let a = b .before .before .before .before .args in
     let t = tableOf (now (a .words)) in
     let room : a .n ≤ length t = fits-table (now (a .words)) (a .n) (omega arith) in
-    let place = c .before .before .before .place-of .ensures in
+    let place = c .before .before .before .place-past .ensures in
     let there = c .before .before .load4 .ensures in (
       search needs,
       rw (c .before .sharing .ensures, c .apart .ensures)
@@ -70,7 +70,7 @@ load-requires-5 : tie.Need-load-requires-5 Inv-loop μ-loop Inv-search μ-search
 load-requires-5 c κs = let l = c .before .before in
     let b = l .before .before .before .before .before .before .before in
     let a = b .before .before .before .before .args in
-    let within : c .place-of2 .result < a .n = other-within (b .search .fewest) (l .loop .j) (c .place-of2 .result) (a .n) (c .place-of2 .ensures) (omega arith) in
+    let within : c .place-past2 .result < a .n = other-within (b .search .fewest) (l .loop .j) (c .place-past2 .result) (a .n) (c .place-past2 .ensures) (omega arith) in
     omega arith
 
 add-j : tie.Need-add-j Inv-loop μ-loop Inv-search μ-search
@@ -87,7 +87,7 @@ loop-again c =
     let room : a .n ≤ length t = fits-table (now (a .words)) (a .n) (omega arith) in
     let among : b .search .fewest < a .n = omega arith in
     let next : suc (l .loop .j) < a .n = omega arith in
-    let place = c .before .before .before .place-of2 .ensures in
+    let place = c .before .before .before .place-past2 .ensures in
     let there = c .before .before .load5 .ensures in
     let said = c .before .closer .ensures in
     let h = l .loop .inv .1 in (

@@ -18,14 +18,14 @@ use Rattle.estimate.proofs.graph.join_others.Statement.{statement}
 use Rattle.estimate.proofs.graph.join_others.Tie as tie
 
 abbrev Inv-loop : tie.InvT-loop
-Inv-loop work₀ to edges after limit now₀ e₀ work now e =
-    (e ≤ length edges) × AtEdge edges to e × (length work ≡ length work₀) × (now .states ≤ 64)
+Inv-loop work₀ to edges after limit so-far₀ e₀ work so-far e =
+    (e ≤ length edges) × AtEdge edges to e × (length work ≡ length work₀) × (so-far .states ≤ 64)
     × (take (to * 64) (tableOf work) ≡ take (to * 64) (tableOf work₀)) × Every (λ p. p < to) (cameFrom edges to e)
-    × (joinAll limit (workedIn to (now₀ .aside .0) (tableOf work₀)) (cameFrom edges to e) (workAt (to * 64) (now .states) (now .aside .0) work)
-    ≡ joinAll limit (workedIn to (now₀ .aside .0) (tableOf work₀)) (cameFrom edges to after) (workAt (to * 64) (now₀ .states) (now₀ .aside .0) work₀))
+    × (joinAll limit (workedIn to (so-far₀ .aside .0) (tableOf work₀)) (cameFrom edges to e) (workAt (to * 64) (so-far .states) (so-far .aside .0) work)
+    ≡ joinAll limit (workedIn to (so-far₀ .aside .0) (tableOf work₀)) (cameFrom edges to after) (workAt (to * 64) (so-far₀ .states) (so-far₀ .aside .0) work₀))
 
 abbrev μ-loop : tie.MeasureT-loop
-μ-loop work₀ to edges after limit now₀ e₀ work now e = length edges - e
+μ-loop work₀ to edges after limit so-far₀ e₀ work so-far e = length edges - e
 
 loop-holds : tie.Need-loop-holds Inv-loop μ-loop
 loop-holds c = let n = c .next-edge .ensures in
@@ -73,7 +73,7 @@ loop-again c = let a = c .before .before .before .before .before .before .before
       g .ensures .before ∙ l .inv .4,
       rw (n .3) (low .1),
       rw (n .3)
-          (join-turn (a .limit) (a .to) (a .tally .aside .0) (tableOf (now (a .work))) (cameFrom ns (a .to) (l .e)) (cameFrom ns (a .to) (l .e + 2)) (getD ns (l .e) 0) (l .now .states) (l .now .aside .0) (g .result .states) (g .result .aside .0) (c .before .before .before .before .before .count .result) (l .work) (g .last .0) _
+          (join-turn (a .limit) (a .to) (a .tally .aside .0) (tableOf (now (a .work))) (cameFrom ns (a .to) (l .e)) (cameFrom ns (a .to) (l .e + 2)) (getD ns (l .e) 0) (l .so-far .states) (l .so-far .aside .0) (g .result .states) (g .result .aside .0) (c .before .before .before .before .before .count .result) (l .work) (g .last .0) _
           (into-here ns (a .to) (l .e) (here .0) (here .1)) (low .0) (c .before .before .before .before .before .count .ensures) (l .inv .4) (l .inv .6) (g .ensures)),
     )
 

@@ -14,13 +14,13 @@ use Rattle.estimate.proofs.run.run.Statement.{statement}
 use Rattle.estimate.proofs.run.run.Tie as tie
 
 abbrev Inv-loop : tie.InvT-loop
-Inv-loop work₀ at accesses tracked ways limit now₀ i₀ work now i =
-    (i ≤ length accesses) × (length work ≡ length work₀) × Ready ways (length tracked) limit (4096 - (length accesses - i)) at (now .states) (now .aside .0) work
+Inv-loop work₀ at accesses tracked ways limit so-far₀ i₀ work so-far i =
+    (i ≤ length accesses) × (length work ≡ length work₀) × Ready ways (length tracked) limit (4096 - (length accesses - i)) at (so-far .states) (so-far .aside .0) work
     × (take at (tableOf work) ≡ take at (tableOf work₀))
-    × Ran ways limit tracked accesses i (workAt at (now .states) (now .aside .0) work) (workAt at (now₀ .states) (now₀ .aside .0) work₀)
+    × Ran ways limit tracked accesses i (workAt at (so-far .states) (so-far .aside .0) work) (workAt at (so-far₀ .states) (so-far₀ .aside .0) work₀)
 
 abbrev μ-loop : tie.MeasureT-loop
-μ-loop work₀ at accesses tracked ways limit now₀ i₀ work now i = length accesses - i
+μ-loop work₀ at accesses tracked ways limit so-far₀ i₀ work so-far i = length accesses - i
 
 loop-holds : tie.Need-loop-holds Inv-loop μ-loop
 loop-holds c = let a = c .before .before .before .args in

@@ -1,4 +1,4 @@
--- `left` meets its contract. The invariant of its loop: every node but the last has an edge out where each below j has.
+-- `has_edge_out` meets its contract. The invariant of its loop: every node but the last has an edge out where each below j has.
 use mathlib.Core.Path.{_≡_, refl}
 use mathlib.Core.Bool.{Bool, _&&_, _||_}
 use mathlib.Core.List.{List, map}
@@ -10,17 +10,17 @@ use lib.Dec.{eqb}
 use denote.Ref.{now}
 use Rattle.rules.specs.Contents.{among}
 use Rattle.rules.specs.Input.{edgesOf}
-use Rattle.rules.specs.Refusals.{eachBelow, left}
+use Rattle.rules.specs.Refusals.{eachBelow, hasEdgeOut}
 use Rattle.refusals.proofs.Reasons.{below-next}
-use Rattle.refusals.proofs.left.Statement.{statement}
-use Rattle.refusals.proofs.left.Tie as tie
+use Rattle.refusals.proofs.has_edge_out.Statement.{statement}
+use Rattle.refusals.proofs.has_edge_out.Tie as tie
 
 -- whether node k, unless it is the last of n, has an edge out
 abbrev out : ℕ → List ℕ → ℕ → Bool
 out n ns k = eqb (suc k) n || among (map (λ e. e .from) (edgesOf ns)) k
 
 abbrev Inv-loop : tie.InvT-loop
-Inv-loop edges n j₀ j = (j < n) × (eachBelow j (out n edges) ≡ left n (edgesOf edges))
+Inv-loop edges n j₀ j = (j < n) × (eachBelow j (out n edges) ≡ hasEdgeOut n (edgesOf edges))
 
 abbrev μ-loop : tie.MeasureT-loop
 μ-loop edges n j₀ j = j
@@ -36,7 +36,7 @@ loop-holds c =
 -- in a turn: by what is found of the highest node that is left, and by those below it
 turn : (c : tie.After-ends Inv-loop μ-loop) →
     let a = c .before .before .before .before .before .args in
-    (c .ends .result && eachBelow (c .before .before .loop .j - 1) (out (a .n) (now (a .edges)))) ≡ left (a .n) (edgesOf (now (a .edges)))
+    (c .ends .result && eachBelow (c .before .before .loop .j - 1) (out (a .n) (now (a .edges)))) ≡ hasEdgeOut (a .n) (edgesOf (now (a .edges)))
 turn c =
     let l = c .before .before .loop in
     let n = c .before .before .before .before .before .args .n in
@@ -51,8 +51,8 @@ returns-2 c = rw (c .if2 .left) at (turn (c .before))
 returns-3 : tie.Need-returns-3 Inv-loop μ-loop
 returns-3 c = let none : c .before .loop .j ≡ 0 = omega arith in rw none at (c .before .loop .inv .1)
 
-pub left-spec : {M : Type 1} → statement M
-left-spec =
+pub has-edge-out-spec : {M : Type 1} → statement M
+has-edge-out-spec =
     tie.close
     (tie.spec
     Inv-loop
