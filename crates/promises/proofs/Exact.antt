@@ -84,7 +84,6 @@ module _ (ts : List ℕ) (once : Once ts) (few : length ts ≤ places) where
 
   module _ (F : ℕ → ℕ → ℕ) (N : ℕ) where
     -- from every cache, the machine's sum is the value of what it holds
-    -- from every cache, the machine's sum is the value of what it holds
     abbrev Exact : List ℕ → Type 0
     Exact p =
         (c : Cache) → Apart (c .ways) → length (c .ways) ≡ N → allTracked ts p ≡ true

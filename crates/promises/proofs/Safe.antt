@@ -74,7 +74,6 @@ module _ (ts : List ℕ) (once : Once ts) (few : length ts ≤ places) where
 
   module _ (C : ℕ) where
     -- block i is in C, and one of the ways holds it
-    -- block i is in C, and one of the ways holds it
     abbrev inBoth : List Way → ℕ → Bool
     inBoth ws i = bit C i && holds ws (getD ts i 0)
 
@@ -231,7 +230,6 @@ module _ (ts : List ℕ) (once : Once ts) (few : length ts ≤ places) where
   -- ---- the machine is at most the value
 
   module _ (F : ℕ → ℕ → ℕ) (N : ℕ) (rises : Rises N F) where
-    -- from every cache that holds at least C and has at most m misses, the machine's sum is at most the value of C with m
     -- from every cache that holds at least C and has at most m misses, the machine's sum is at most the value of C with m
     abbrev Safe : List ℕ → Type 0
     Safe p =
