@@ -1,5 +1,5 @@
-/* How many misses a field may take: builds the graph of a filter with one branch, asks for the smallest budget that is overrun with a chance of
- * at most 1 in 10^9, and prints it. Built and run by `tools/run-c examples/budget.c`. */
+/* How many misses a field may take, and how many cycles on two cores: builds the graph of a filter with one branch, asks for the smallest budgets that are
+ * overrun with a chance of at most 1 in 10^9, and prints them. Built and run by `tools/run-c examples/budget.c`. */
 #include <inttypes.h>
 #include <stdio.h>
 
@@ -34,19 +34,27 @@ int main(void)
     static uint64_t result[ESTIMATE_RESULT_WORDS], work[ESTIMATE_WORK_WORDS];
     uint32_t accesses[ESTIMATE_MOST_ACCESSES];
     size_t count = list_accesses(accesses), states;
-    uint64_t aside, budget, above;
+    uint64_t aside, budget, above, longest, cycles_0, cycles_7;
+    const uint64_t allowance = ESTIMATE_WHOLE / 1000000000;
 
     uint64_t refused = estimate_graph(8, 64, tracked, 4, runs, 4, accesses, count, edges, 8,
                                       result, ESTIMATE_RESULT_WORDS, work, ESTIMATE_WORK_WORDS, &states, &aside);
     if (!refused)
-        refused = estimate_smallest_budget(result, ESTIMATE_RESULT_WORDS, states, ESTIMATE_WHOLE / 1000000000, &budget);
+        refused = estimate_smallest_budget(result, ESTIMATE_RESULT_WORDS, states, allowance, &budget);
     if (!refused)
         refused = estimate_above(result, ESTIMATE_RESULT_WORDS, states, budget, &above);
+    if (!refused)
+        refused = estimate_longest_path(8, 64, tracked, 4, runs, 4, accesses, count, edges, 8, &longest);
+    if (!refused)
+        refused = estimate_smallest_cycles(result, ESTIMATE_RESULT_WORDS, states, 0, longest, allowance, &cycles_0);
+    if (!refused)
+        refused = estimate_smallest_cycles(result, ESTIMATE_RESULT_WORDS, states, 7, longest, allowance, &cycles_7);
     if (refused) {
         printf("refused %" PRIu64 "\n", refused);
         return 1;
     }
     printf("%zu states, %" PRIu64 " units set aside\n", states, aside);
     printf("budget for 1 in 10^9: %" PRIu64 " misses, and %" PRIu64 " units above it\n", budget, above);
+    printf("longest path: %" PRIu64 " accesses; %" PRIu64 " cycles on core 0, %" PRIu64 " on core 7\n", longest, cycles_0, cycles_7);
     return 0;
 }

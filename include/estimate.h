@@ -2,7 +2,7 @@
  *
  * Every function ends with an answer or a refusal, whatever the numbers are. A refusal writes nothing, except that the curve's functions write it as a line of text.
  * A stretch of memory is passed as a pointer and how many elements it has; an empty one may be NULL and 0. A pointer to one value (states, aside, units, budget,
- * largest) is never NULL. What is lent for writing overlaps nothing else that is passed: this alone the caller has to see to.
+ * largest) is never NULL, and what is lent for writing overlaps nothing else that is passed: these two things the caller has to see to.
  * Linked from libestimate_c.a, which uses no heap and no memory but what it is lent and the stack, and of the C library only memcpy and memset. */
 #ifndef ESTIMATE_H
 #define ESTIMATE_H
@@ -29,6 +29,10 @@
 #define ESTIMATE_SPREAD_COUNTS 4097
 #define ESTIMATE_NUMBERS 16384
 #define ESTIMATE_OUTPUT_BYTES 262144
+#define ESTIMATE_CYCLES_OUTPUT_BYTES 3145728
+
+/* The cores in service, numbered from 0: a hit and a miss take (1,8) (1,10) (1,12) (1,20) (2,10) (2,16) (2,24) (2,40) (3,15) (3,30) (3,60) (4,100) cycles. */
+#define ESTIMATE_CORES 12
 
 /* What a function gives instead of ESTIMATE_DONE: the number of the first rule that is broken, as document 01 has them. */
 enum estimate_refusal {
@@ -41,7 +45,8 @@ enum estimate_refusal {
     ESTIMATE_ROOM = 6,        /* room for fewer than `limit` result states, or fewer than 5,184 working states */
     ESTIMATE_ROW = 7,         /* the states are no table */
     ESTIMATE_SPREAD_ROOM = 8, /* spread room shorter than the largest misses + 1 */
-    ESTIMATE_TEXT = 9         /* malformed text: only in a curve's text, as `refused 9` */
+    ESTIMATE_TEXT = 9,        /* malformed text: only in a curve's text, as `refused 9` */
+    ESTIMATE_NO_CORE = 16     /* no such core */
 };
 
 /* The graph call: a cache of `ways` ways, at most `limit` states; the tracked blocks; the length of each node's run; all accesses, node after node; the
@@ -69,6 +74,25 @@ uint64_t estimate_smallest_budget(const uint64_t *table, size_t words, size_t st
  * ESTIMATE_SPREAD_ROOM, and writes nothing, if `counts` has fewer than the largest + 1. */
 uint64_t estimate_spread(const uint64_t *table, size_t words, size_t states, uint64_t *counts, size_t counts_room, uint64_t *largest);
 
+/* The accesses of the longest path from the first node to the last go to `*longest`. Gives ESTIMATE_DONE, or the first of 1, 2, 3, 4, 5 that applies, as the graph
+ * call does, and writes nothing. */
+uint64_t estimate_longest_path(uint32_t ways, uint32_t limit,
+                               const uint32_t *tracked, size_t tracked_count,
+                               const uint32_t *runs, size_t nodes,
+                               const uint32_t *accesses, size_t access_count,
+                               const uint32_t *edges, size_t edge_numbers,
+                               uint64_t *longest);
+
+/* The questions in cycles take a core and the longest path's accesses besides: a miss count stands for itself times the core's miss cycles plus the rest of those
+ * accesses times its hit cycles. Each gives ESTIMATE_DONE, or the first that applies of ESTIMATE_NO_CORE, ESTIMATE_ACCESSES (a longest path above 4,096) and
+ * ESTIMATE_ROW (no table, or a state with more misses than the longest path has accesses), and writes nothing. */
+
+/* The units above a cycle budget, at strictly more cycles, go to `*units`. */
+uint64_t estimate_above_cycles(const uint64_t *table, size_t words, size_t states, size_t core, uint64_t longest, uint64_t budget, uint64_t *units);
+
+/* The smallest cycle budget whose units above are at most `allowance` goes to `*cycles`; of an allowance of ESTIMATE_WHOLE or more that is 0. */
+uint64_t estimate_smallest_cycles(const uint64_t *table, size_t words, size_t states, size_t core, uint64_t longest, uint64_t allowance, uint64_t *cycles);
+
 /* The curve of a text of numbers, as the curve program writes it, a refusal too: it goes to the front of `output`, whose rest stays as it was. Gives how many
  * bytes that are, at least one; all other rooms are then zero. Gives 0 and writes nothing if a room is shorter than its constant above. */
 size_t estimate_curve_of_text(const uint8_t *text, size_t bytes,
@@ -85,5 +109,19 @@ size_t estimate_curve_of_numbers(const uint32_t *numbers, size_t count,
                                  uint64_t *work, size_t work_words,
                                  uint64_t *counts, size_t counts_room,
                                  uint8_t *output, size_t output_bytes);
+
+/* The curves in cycles of a text of numbers, as the cycles program writes them, and of numbers: the same, in an output of ESTIMATE_CYCLES_OUTPUT_BYTES. */
+size_t estimate_cycles_of_text(const uint8_t *text, size_t bytes,
+                               uint32_t *numbers, size_t numbers_room,
+                               uint64_t *result, size_t result_words,
+                               uint64_t *work, size_t work_words,
+                               uint64_t *counts, size_t counts_room,
+                               uint8_t *output, size_t output_bytes);
+
+size_t estimate_cycles_of_numbers(const uint32_t *numbers, size_t count,
+                                  uint64_t *result, size_t result_words,
+                                  uint64_t *work, size_t work_words,
+                                  uint64_t *counts, size_t counts_room,
+                                  uint8_t *output, size_t output_bytes);
 
 #endif

@@ -1,17 +1,24 @@
 // One graph, one state limit: the graph call is made, and its table held to every path's choice sequences.
+use crate::cycles::hold_cycles;
+use crate::numbers::TOO_LARGE;
 use crate::numbers::WHOLE;
 use crate::numbers::power;
 use crate::numbers::read;
 use crate::paths::collect;
 use crate::paths::is_path;
 use crate::paths::sets_of;
+use crate::promises::Path;
+use crate::promises::Told;
 use crate::promises::hold_above;
 use crate::promises::hold_exact;
 use crate::report::Report;
 use crate::sequences::count_each;
+use crate::sequences::count_misses;
 use crate::sequences::sequences_in;
 use crate::table::total;
 use estimate::analyse;
+use longest::longest_path;
+use rules::Length;
 use rules::Outcome;
 
 // Whether `block` is one of at most four tracked ones; 0 is no block.
@@ -39,51 +46,68 @@ fn all_tracked(tracked: &[u32], accesses: &[u32]) -> bool {
     true
 }
 
-// The counted choice sequences of a path, of which there are `all`. On a straight run whose blocks are all tracked (`tight`)
-// the units above a budget are tight, and exact where nothing is set aside.
-fn examine_counts(
+// On every core.
+fn examine_cycles(
     table: &[u64],
-    aside: u64,
+    told: Told,
     counts: &[u64; 256],
-    all: u64,
-    budgets: u64,
-    tight: bool,
+    path: Path,
     report: Report,
 ) -> Report {
-    let counted = report.walked(all).compared(sequences_in(counts) == all);
-    let above = hold_above(table, aside, counts, all, budgets, tight, counted);
-    if tight {
-        if aside == 0 {
-            return hold_exact(table, counts, all, above);
-        }
-    }
-    above
+    let mut totals: [u64; 16] = [0; 16];
+    count_misses(&mut totals, counts);
+    hold_cycles(table, told, &totals, path, report)
 }
 
-// One path, with every budget from 0 to one past its length.
+// The counted choice sequences of a path. On a straight run whose blocks are all tracked the units above a budget are tight, and exact
+// where nothing is set aside.
+fn examine_counts(
+    table: &[u64],
+    told: Told,
+    counts: &[u64; 256],
+    path: Path,
+    report: Report,
+) -> Report {
+    let walked = report.walked(path.accesses, path.all);
+    let counted = walked.compared(sequences_in(counts) == path.all);
+    let above = hold_above(table, told.aside, counts, path, counted);
+    let cycles = examine_cycles(table, told, counts, path, above);
+    if path.tight {
+        if told.aside == 0 {
+            return hold_exact(table, counts, path.all, cycles);
+        }
+    }
+    cycles
+}
+
+// One path: `accesses` are those of its nodes.
 fn examine_path(
     table: &[u64],
-    aside: u64,
+    told: Told,
     ways: u32,
     tracked: &[u32],
-    path: &[u32],
+    accesses: &[u32],
     tight: bool,
     report: Report,
 ) -> Report {
-    if 16 < path.len() {
+    if 16 < accesses.len() {
         return report.compared(false);
     }
-    let budgets = path.len() as u64 + 2;
-    let all = power(ways as u64, path.len());
+    let all = power(ways as u64, accesses.len());
+    let path = Path {
+        accesses: accesses.len() as u64,
+        all,
+        tight,
+    };
     let mut counts: [u64; 256] = [0; 256];
-    count_each(&mut counts, path, tracked, ways as u64, all);
-    examine_counts(table, aside, &counts, all, budgets, tight, report)
+    count_each(&mut counts, accesses, tracked, ways as u64, all);
+    examine_counts(table, told, &counts, path, report)
 }
 
 // The path that is the first `length` accesses of `path`.
 fn examine_first(
     table: &[u64],
-    aside: u64,
+    told: Told,
     ways: u32,
     tracked: &[u32],
     path: &[u32],
@@ -95,7 +119,7 @@ fn examine_first(
         return report.compared(false);
     }
     let end = length as usize;
-    examine_path(table, aside, ways, tracked, &path[0..end], tight, report)
+    examine_path(table, told, ways, tracked, &path[0..end], tight, report)
 }
 
 // Whether a graph is a straight run whose blocks are all tracked.
@@ -109,7 +133,7 @@ fn is_tight(nodes: usize, tracked: &[u32], accesses: &[u32]) -> bool {
 // A set of nodes, where it is a path.
 fn examine_set(
     table: &[u64],
-    aside: u64,
+    told: Told,
     ways: u32,
     tracked: &[u32],
     runs: &[u32],
@@ -131,13 +155,13 @@ fn examine_set(
     let mut path: [u32; 16] = [0; 16];
     let length = collect(&mut path, chosen, runs, accesses);
     let tight = is_tight(nodes, tracked, accesses);
-    examine_first(table, aside, ways, tracked, &path, length, tight, report)
+    examine_first(table, told, ways, tracked, &path, length, tight, report)
 }
 
 // Every path.
 fn examine_paths(
     table: &[u64],
-    aside: u64,
+    told: Told,
     ways: u32,
     tracked: &[u32],
     runs: &[u32],
@@ -151,7 +175,7 @@ fn examine_paths(
     while chosen < sets {
         done = examine_set(
             table,
-            aside,
+            told,
             ways,
             tracked,
             runs,
@@ -165,11 +189,11 @@ fn examine_paths(
     done
 }
 
-// The finished table is the first `states` states of `result`.
+// The finished table is the first `states` states of `result`. Of all paths the longest one has as many accesses as was told.
 fn examine_result(
     result: &[u64],
     states: usize,
-    aside: u64,
+    told: Told,
     ways: u32,
     limit: u32,
     tracked: &[u32],
@@ -185,7 +209,16 @@ fn examine_result(
     let table = &result[0..end];
     let few = report.compared(states <= limit as usize);
     let whole = few.compared(total(table) == WHOLE);
-    examine_paths(table, aside, ways, tracked, runs, accesses, edges, whole)
+    let paths = examine_paths(table, told, ways, tracked, runs, accesses, edges, whole);
+    paths.compared(paths.longest == told.longest)
+}
+
+// The accesses of the longest path; where it is refused, a number that no path has.
+fn accesses_of(answer: Length) -> u64 {
+    match answer {
+        Length::Accesses(accesses) => accesses,
+        Length::Refused(_) => TOO_LARGE,
+    }
 }
 
 // The graph call with one state limit.
@@ -201,6 +234,7 @@ fn examine(
     let mut result: [u64; 192] = [0; 192];
     let mut work: [u64; 15552] = [0; 15552];
     let called = report.called();
+    let longest = accesses_of(longest_path(ways, limit, tracked, runs, accesses, edges));
     match analyse(
         ways,
         limit,
@@ -214,7 +248,10 @@ fn examine(
         Outcome::Finished(states, aside) => examine_result(
             &result,
             states,
-            aside.0,
+            Told {
+                aside: aside.0,
+                longest,
+            },
             ways,
             limit,
             tracked,

@@ -5,15 +5,20 @@
 // - on a straight run whose blocks are all tracked, where nothing is set aside: the units of each contents and miss count
 //   are its exact share of the choice sequences;
 // - on every path and for every budget: the share of the sequences with more misses is at most the units above the budget;
-// - on a straight run whose blocks are all tracked: the units above exceed that share by no more than what is set aside.
+// - on a straight run whose blocks are all tracked: the units above exceed that share by no more than what is set aside;
+// - the last two again for every core and for cycle budgets in place of misses: a path's exact cycles are held to the units above the
+//   cycle budget, asked with the accesses of the graph's longest path;
+// - the longest path has as many accesses as the longest of all paths.
 //
-// It shares no code with the graph call.
+// It shares no code with the graph call, the longest path and the questions.
 use crate::graphs::all_graphs;
 use crate::report::Report;
 use crate::report::nothing_yet;
 use crate::straight::all_straight;
 
 mod cache;
+mod cores;
+mod cycles;
 mod examine;
 mod graphs;
 mod numbers;

@@ -1,7 +1,7 @@
 // Arithmetic that never wraps. Where a number is too large the result says so, and a comparison with it fails.
 
 // The largest number: it stands for every sum or product that does not fit.
-const TOO_LARGE: u64 = 18446744073709551615;
+pub(crate) const TOO_LARGE: u64 = 18446744073709551615;
 
 // Probability 1, in units.
 pub(crate) const WHOLE: u64 = 281474976710656;
@@ -13,8 +13,23 @@ pub(crate) fn plus(a: u64, b: u64) -> u64 {
     a + b
 }
 
+pub(crate) fn larger(a: u64, b: u64) -> u64 {
+    if a < b {
+        return b;
+    }
+    a
+}
+
+// a - b, and 0 where `b` is the larger.
+pub(crate) fn less(a: u64, b: u64) -> u64 {
+    if a < b {
+        return 0;
+    }
+    a - b
+}
+
 // a × b, where `a` is at most WHOLE and `b` below 65,536.
-fn times(a: u64, b: u64) -> u64 {
+pub(crate) fn times(a: u64, b: u64) -> u64 {
     if WHOLE < a {
         return TOO_LARGE;
     }

@@ -1,11 +1,25 @@
-// What a table promises, held to the counted choice sequences of a path, of which there are `all`.
+// What a table promises, held to the counted choice sequences of a path.
 use crate::numbers::WHOLE;
 use crate::numbers::at_most;
 use crate::numbers::equal;
+use crate::numbers::plus;
 use crate::report::Report;
 use crate::sequences::sequences_above;
 use crate::table::units_above;
 use crate::table::units_in;
+
+// A path: how many accesses and choice sequences it has, and whether it is a straight run whose blocks are all tracked.
+pub(crate) struct Path {
+    pub accesses: u64,
+    pub all: u64,
+    pub tight: bool,
+}
+
+// What was answered of a graph beside its table: the units set aside, and the accesses of its longest path.
+pub(crate) struct Told {
+    pub aside: u64,
+    pub longest: u64,
+}
 
 // Tight: `units` above a budget exceed the share of the `above` sequences by no more than the units set aside.
 fn is_tight(units: u64, aside: u64, above: u64, all: u64) -> bool {
@@ -15,23 +29,32 @@ fn is_tight(units: u64, aside: u64, above: u64, all: u64) -> bool {
     at_most(units - aside, all, WHOLE, above)
 }
 
-// Safe: the share of the sequences with more misses than `budget` is at most the units above it. And tight, where it has to be.
+// Safe: the share of the `above` sequences, those above a budget, is at most the units above it. And tight, where it has to be.
+pub(crate) fn compare_units(
+    units: u64,
+    aside: u64,
+    above: u64,
+    path: Path,
+    report: Report,
+) -> Report {
+    let safe = report.compared(at_most(WHOLE, above, units, path.all));
+    if path.tight {
+        return safe.compared(is_tight(units, aside, above, path.all));
+    }
+    safe
+}
+
+// At one budget of misses.
 fn compare_above(
     table: &[u64],
     aside: u64,
     counts: &[u64; 256],
-    all: u64,
+    path: Path,
     budget: u64,
-    tight: bool,
     report: Report,
 ) -> Report {
     let above = sequences_above(counts, budget);
-    let units = units_above(table, budget);
-    let safe = report.compared(at_most(WHOLE, above, units, all));
-    if tight {
-        return safe.compared(is_tight(units, aside, above, all));
-    }
-    safe
+    compare_units(units_above(table, budget), aside, above, path, report)
 }
 
 // Exact: the units of a cell are its share of the sequences. Where there are neither, nothing is compared.
@@ -55,20 +78,19 @@ fn compare_exact(
     report.compared(equal(units, all, WHOLE, sequences))
 }
 
-// Every budget below `budgets`.
+// Every budget from 0 to one past the path's accesses.
 pub(crate) fn hold_above(
     table: &[u64],
     aside: u64,
     counts: &[u64; 256],
-    all: u64,
-    budgets: u64,
-    tight: bool,
+    path: Path,
     report: Report,
 ) -> Report {
+    let end = plus(path.accesses, 2);
     let mut done = report;
     let mut budget: u64 = 0;
-    while budget < budgets {
-        done = compare_above(table, aside, counts, all, budget, tight, done);
+    while budget < end {
+        done = compare_above(table, aside, counts, path, budget, done);
         budget += 1;
     }
     done

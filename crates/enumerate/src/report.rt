@@ -1,4 +1,5 @@
 // What was done so far.
+use crate::numbers::larger;
 use crate::numbers::plus;
 
 pub(crate) struct Report {
@@ -6,6 +7,8 @@ pub(crate) struct Report {
     pub calls: u64,
     // Paths from the first node to the last.
     pub paths: u64,
+    // The most accesses of such a path since the last call.
+    pub longest: u64,
     // Choice sequences walked over them.
     pub sequences: u64,
     // Comparisons, and how many of them failed.
@@ -17,6 +20,7 @@ pub(crate) fn nothing_yet() -> Report {
     Report {
         calls: 0,
         paths: 0,
+        longest: 0,
         sequences: 0,
         comparisons: 0,
         failed: 0,
@@ -28,17 +32,19 @@ impl Report {
         Report {
             calls: plus(self.calls, 1),
             paths: self.paths,
+            longest: 0,
             sequences: self.sequences,
             comparisons: self.comparisons,
             failed: self.failed,
         }
     }
 
-    // A path of `sequences` choice sequences was walked.
-    pub(crate) fn walked(self, sequences: u64) -> Report {
+    // A path of `accesses` accesses and `sequences` choice sequences was walked.
+    pub(crate) fn walked(self, accesses: u64, sequences: u64) -> Report {
         Report {
             calls: self.calls,
             paths: plus(self.paths, 1),
+            longest: larger(self.longest, accesses),
             sequences: plus(self.sequences, sequences),
             comparisons: self.comparisons,
             failed: self.failed,
@@ -49,6 +55,7 @@ impl Report {
         Report {
             calls: self.calls,
             paths: self.paths,
+            longest: self.longest,
             sequences: self.sequences,
             comparisons: plus(self.comparisons, 1),
             failed: plus(self.failed, failures),

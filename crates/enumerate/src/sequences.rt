@@ -83,3 +83,13 @@ pub(crate) fn sequences_in(counts: &[u64; 256]) -> u64 {
     }
     total
 }
+
+// Adds the counts of all contents up: `totals` gets how many sequences have each miss count.
+pub(crate) fn count_misses(totals: &mut [u64; 16], counts: &[u64; 256]) {
+    let mut cell: usize = 0;
+    while cell < 256 {
+        let misses = cell % 16;
+        totals[misses] = plus(totals[misses], counts[cell]);
+        cell += 1;
+    }
+}

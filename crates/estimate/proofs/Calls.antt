@@ -16,7 +16,7 @@ use Rattle.rules.specs.Units.{units}
 use Rattle.rules.specs.Input.{Input, inputOf, nodes}
 use Rattle.rules.specs.Graph.{Worked, tableAt, worked, finished}
 use Rattle.rules.specs.Refusals.{verdict, outcome}
-use Rattle.rules.proofs.Refusals.{Checked, accepted}
+use Rattle.rules.proofs.Refusals.{Checked}
 use Rattle.rules.proofs.Rooms.{same-worked}
 use Rattle.rules.proofs.Graph.{finished-table, node-table}
 use Rattle.words.specs.Tables.{tableOf, wordsOf}
@@ -91,10 +91,6 @@ module _ (N K : ℕ) (ts ns bs es : List ℕ) (rs ws : List ℕ) where
       }
 
 -- ---- the answer
-
-pub checked : (i : Input) → Accepted ≡ verdict i → Checked i
-unfolding outcome
-checked i v = accepted i (rw (← v) refl)
 
 module _ (N K : ℕ) (ts ns bs es rs ws : List ℕ) where
   pub leaves-refused : (v : Verdict) (r : Refusal) → v ≡ verdict (handed N K ts ns bs es rs ws) → v ≡ Refused r

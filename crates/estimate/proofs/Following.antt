@@ -2,7 +2,7 @@
 -- needed.
 use mathlib.Core.Path.{_≡_, refl, sym, ap, ap₂, _∙_, subst}
 use mathlib.Core.Bool.{Bool, true, false, cond}
-use mathlib.Core.List.{List, [], _∷_, _++_, map, flatMap, map-append, append-assoc, append-nil}
+use mathlib.Core.List.{List, [], _∷_, _++_, map, flatMap, map-append}
 use Prim.Native.Nat.{ℕ, zero, suc, _+_, _-_, _*_, _/_, _%_, _≤_, _<_, suc-le-suc}
 use native.Mathlib.Nat.{le-trans, le-of-eq, lt-of-le-of-lt, mul-le-mul, div-le-self, min-le-left}
 use native.Mathlib.Decide.{decLt}
@@ -25,7 +25,7 @@ use Rattle.rules.specs.Table.{state, unitsOf, rising, listed, add, stateAt}
 use Rattle.rules.specs.Step.{missed, miss, successors, leftOver, access, accessAside}
 use Rattle.rules.specs.Shape.{Every}
 use Rattle.rules.proofs.Splitting.{more-adds, more-more}
-use Rattle.rules.proofs.Lists.{every-take, every-at, every-weaker}
+use Rattle.rules.proofs.Lists.{every-take, every-at, every-weaker, flat-snoc}
 use Rattle.rules.proofs.Contents.{sixteen-places, size-zero}
 use Rattle.rules.proofs.Step.{length-access}
 use Rattle.rules.proofs.Table.{rising-is, rising-so, rising-add, length-listed, length-listed-append, length-add, add-append}
@@ -194,14 +194,9 @@ module _ (N : ℕ) (x : Place) (S : List State) where
 
   -- one state more
   pub gathered-next : (i : ℕ) (s : State) → i < length S → s ≡ stateAt S i → add (successors N x s) (gathered i) ≡ gathered (i + 1)
-  unfolding flatMap
   gathered-next i s l e =
       sym (add-append (flatMap (successors N x) (take i S)) (successors N x s) [])
-      ∙ ap (λ (U : List State). add U []) (sym (flat-snoc (take i S)) ∙ ap (flatMap (successors N x)) (take-next S i s l e))
-    where
-      flat-snoc : (U : List State) → flatMap (successors N x) (U ++ (s ∷ [])) ≡ flatMap (successors N x) U ++ successors N x s
-      flat-snoc [] = append-nil (successors N x s)
-      flat-snoc (u ∷ U) = ap (successors N x u ++_) (flat-snoc U) ∙ sym (append-assoc (successors N x u) (flatMap (successors N x) U) (successors N x s))
+      ∙ ap (λ (U : List State). add U []) (sym (flat-snoc (successors N x) (take i S) s) ∙ ap (flatMap (successors N x)) (take-next S i s l e))
 
   pub gathered-room : (i n : ℕ) → n ≡ length (gathered i) → Every (Workable N) S → N ≤ 16 → n ≤ i * 17
   gathered-room i n e h few =

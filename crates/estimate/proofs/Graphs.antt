@@ -6,7 +6,7 @@ use Prim.Native.Nat.{ℕ, zero, suc, _+_, _-_, _*_, _≤_, _<_}
 use native.Mathlib.Omega.{arith}
 use lib.Dec.{eqb}
 use lib.ListN.{length, getD, set, take, drop, replicate, length-drop, length-take}
-use lib.Seq.{paste, take-take, length-take-le}
+use lib.Seq.{paste, take-take}
 use borrow.Author.Tests.{eq-eqb, ne-eqb, eqb-true}
 use Rattle.rules.specs.declared.State.{State}
 use Rattle.rules.specs.Units.{whole}
@@ -20,7 +20,7 @@ use Rattle.rules.specs.Input.{Input, nodes, offset, runOf, edgesOf, predecessor
 use Rattle.rules.specs.Graph.{Worked, tableAt, joinAll, enter, node, worked}
 use Rattle.rules.proofs.Refusals.{Checked, predecessor-lower}
 use Rattle.rules.proofs.Run.{table-wider, table-run}
-use Rattle.rules.proofs.Graph.{nodeTable, table-stays, first-and-others, table-enter, aside-enter, aside-worked, offset-next, offset-most, every-node}
+use Rattle.rules.proofs.Graph.{nodeTable, table-stays, first-and-others, table-enter, aside-enter, aside-worked, run-within, run-long, every-node}
 use Rattle.words.specs.Tables.{tableOf}
 use Rattle.estimate.specs.Rooms.{Stands, InPlace, NodeDone, filled, slotOf, tableIn, tablesIn, workedIn}
 use Rattle.estimate.specs.Edges.{cameFrom, AtEdge}
@@ -240,21 +240,13 @@ unfolding worked tablesIn
 nodes-start i T = refl
 
 module _ (i : Input) (ok : Checked i) (j : ℕ) (l : j < nodes i) where
-  -- its run lies within the access list
-  pub run-within : getD (i .lengths) j 0 + offset (i .lengths) j ≤ length (i .accesses)
-  run-within = omega (arith, offset-next (i .lengths) j l, offset-most (i .lengths) (suc j), ok .all-accesses)
-
-  -- and is the stretch of it that starts behind the runs before
+  -- its run is the stretch of the access list that starts behind the runs before
   pub run-part : (from : ℕ) → from ≡ offset (i .lengths) j → take (from + getD (i .lengths) j 0 - from) (drop from (i .accesses)) ≡ runOf i j
   unfolding runOf
   run-part from e = ap₂ (λ (n o : ℕ). take n (drop o (i .accesses))) long e
     where
       long : from + getD (i .lengths) j 0 - from ≡ getD (i .lengths) j 0
       long = omega arith
-
-  pub run-long : length (runOf i j) ≡ getD (i .lengths) j 0
-  unfolding runOf
-  run-long = length-take-le (getD (i .lengths) j 0) (drop (offset (i .lengths) j) (i .accesses)) (omega (arith, run-within, length-drop (offset (i .lengths) j) (i .accesses)))
 
   -- it can be worked where the nodes before it are
   pub node-startable : (a m : ℕ) (ws : List ℕ) → workedIn j a (tableOf ws) ≡ worked i j → 15552 ≤ length ws → m ≡ length (runOf i j)
@@ -267,7 +259,7 @@ module _ (i : Input) (ok : Checked i) (j : ℕ) (l : j < nodes i) where
         aside = subst (λ (d : Worked). d .aside ≤ whole) (sym d) (aside-worked i (ok .some-ways) (ok .some-states) j);
         lower = every-among (λ p. p < j) (predecessors (edgesOf (i .edges)) j) (λ p e. predecessor-lower i ok p j e .0);
         tables = λ p k. rw (tables p k)
-            (table-wider (i .ways) (length (i .tracked)) (i .limit) (offset (i .lengths) j) (4096 - m) _ (omega (arith, e, run-long, run-within, ok .few-accesses))
+            (table-wider (i .ways) (length (i .tracked)) (i .limit) (offset (i .lengths) j) (4096 - m) _ (omega (arith, e, run-long i ok j l, run-within i ok j l, ok .few-accesses))
             (every-node i ok j (omega arith) p k));
       }
     where

@@ -1,41 +1,59 @@
--- A curve's text is never empty, so that 0 bytes mean that a room is too short, and nothing else: it begins with a word, `states` or `refused`.
+-- The text of a curve, in misses or in cycles, is never empty, so that 0 bytes mean that a room is too short, and nothing else: it begins with a word, `states` or
+-- `refused`.
 use mathlib.Core.Bool.{Bool, true, false, cond}
 use mathlib.Core.List.{List}
 use Prim.Native.Nat.{ℕ, _<_}
 use native.Mathlib.Omega.{arith}
 use lib.ListN.{length}
-use Rattle.rules.specs.declared.State.{State}
-use Rattle.rules.specs.declared.Outcome.{Outcome}
-use Rattle.rules.specs.declared.Outcome.the-variants.{Finished, Refused}
 use Rattle.rules.specs.declared.Refusal.the-variants.{Text}
+use Rattle.rules.specs.declared.Verdict.{Verdict}
+use Rattle.rules.specs.declared.Verdict.the-variants.{Accepted, Refused}
 use Rattle.rules.specs.Answers.{numberOf}
-use Rattle.rules.specs.Graph.{finished}
-use Rattle.rules.specs.Refusals.{outcome}
+use Rattle.rules.specs.Input.{Input}
+use Rattle.rules.specs.Refusals.{verdict}
 use Rattle.text.specs.Parts.{complete, inputFrom}
 use Rattle.text.specs.Reading.{wellFormed, numbersIn}
-use Rattle.text.specs.Writing.{refusedLine, headLine}
-use Rattle.text.specs.Curve.{told, curve, curveOfNumbers, curveOfText}
+use Rattle.text.specs.Writing.{refusedLine, headWords}
+use Rattle.text.specs.Printed.{told, ofInput, ofNumbers, ofText}
+use Rattle.text.specs.Curve.{curve, curveOfNumbers, curveOfText}
+use Rattle.text.specs.Cycles.{longestLine, inCycles, cyclesOfNumbers, cyclesOfText}
 
 refused-some : (n : ℕ) → 0 < length (refusedLine n)
 unfolding refusedLine
 refused-some n = omega arith
 
-told-some : (o : Outcome) (T : List State) → 0 < length (told o T)
-unfolding headLine
-told-some (Finished n a) T = omega arith
-told-some (Refused r) T = refused-some (numberOf r)
-
 either-some : (b : Bool) (xs ys : List ℕ) → 0 < length xs → 0 < length ys → 0 < length (cond b xs ys)
 either-some true xs ys p q = p
 either-some false xs ys p q = q
 
-pub numbers-some : (ns : List ℕ) → 0 < length (curveOfNumbers ns)
-unfolding curveOfNumbers curve
-numbers-some ns =
-    let i = inputFrom ns in
-    either-some (complete ns) (curve i) (refusedLine (numberOf Text)) (told-some (outcome i) (finished i .table)) (refused-some (numberOf Text))
+-- where the text of an accepted input is not empty, what is printed is not
+module _ (text : Input → List ℕ) (some : (i : Input) → 0 < length (text i)) where
+  told-some : (v : Verdict) (i : Input) → 0 < length (told v (text i))
+  told-some Accepted i = some i
+  told-some (Refused r) i = refused-some (numberOf r)
 
-pub text-some : (text : List ℕ) → 0 < length (curveOfText text)
-unfolding curveOfText
-text-some text =
-    either-some (wellFormed text) (curveOfNumbers (numbersIn text)) (refusedLine (numberOf Text)) (numbers-some (numbersIn text)) (refused-some (numberOf Text))
+  numbers-some : (ns : List ℕ) → 0 < length (ofNumbers text ns)
+  unfolding ofNumbers ofInput
+  numbers-some ns =
+      let i = inputFrom ns in
+      either-some (complete ns) (ofInput text i) (refusedLine (numberOf Text)) (told-some (verdict i) i) (refused-some (numberOf Text))
+
+  text-some : (bytes : List ℕ) → 0 < length (ofText text bytes)
+  unfolding ofText
+  text-some bytes =
+      let ns = numbersIn bytes in
+      either-some (wellFormed bytes) (ofNumbers text ns) (refusedLine (numberOf Text)) (numbers-some ns) (refused-some (numberOf Text))
+
+curve-some : (i : Input) → 0 < length (curve i)
+unfolding curve headWords
+curve-some i = omega arith
+
+cycles-some : (i : Input) → 0 < length (inCycles i)
+unfolding inCycles longestLine headWords
+cycles-some i = omega arith
+
+pub curve-never-empty : ((ns : List ℕ) → 0 < length (curveOfNumbers ns)) × ((bytes : List ℕ) → 0 < length (curveOfText bytes))
+curve-never-empty = (numbers-some curve curve-some, text-some curve curve-some)
+
+pub cycles-never-empty : ((ns : List ℕ) → 0 < length (cyclesOfNumbers ns)) × ((bytes : List ℕ) → 0 < length (cyclesOfText bytes))
+cycles-never-empty = (numbers-some inCycles cycles-some, text-some inCycles cycles-some)

@@ -6,8 +6,12 @@ use Rattle.rules.specs.declared.Amount.{Amount}
 use Rattle.rules.specs.declared.Amount.the-variants.{Units as AmountOf, Refused as RefusedAmount}
 use Rattle.rules.specs.declared.Count.{Count}
 use Rattle.rules.specs.declared.Count.the-variants.{Misses, Refused as RefusedCount}
+use Rattle.rules.specs.declared.Length.{Length}
+use Rattle.rules.specs.declared.Length.the-variants.{Accesses, Refused as RefusedLength}
 use Rattle.rules.specs.declared.Outcome.{Outcome}
 use Rattle.rules.specs.declared.Outcome.the-variants.{Finished, Refused as RefusedOutcome}
+use Rattle.rules.specs.declared.Time.{Time}
+use Rattle.rules.specs.declared.Time.the-variants.{Cycles, Refused as RefusedTime}
 use Rattle.rules.specs.Answers.{numberOf}
 use Rattle.rules.specs.Questions.{SpreadAnswer}
 use Rattle.estimate.specs.Call.{After}
@@ -49,6 +53,16 @@ amountGiven (RefusedAmount r) value = record { number = numberOf r; value = valu
 abbrev pub countGiven : Count → ℕ → ValueGiven
 countGiven (Misses m) value = record { number = 0; value = m }
 countGiven (RefusedCount r) value = record { number = numberOf r; value = value }
+
+-- cycles
+abbrev pub timeGiven : Time → ℕ → ValueGiven
+timeGiven (Cycles n) value = record { number = 0; value = n }
+timeGiven (RefusedTime r) value = record { number = numberOf r; value = value }
+
+-- accesses
+abbrev pub lengthGiven : Length → ℕ → ValueGiven
+lengthGiven (Accesses n) value = record { number = 0; value = n }
+lengthGiven (RefusedLength r) value = record { number = numberOf r; value = value }
 
 -- the largest miss count of a spread, and its room
 pub record SpreadGiven : Type 0 where

@@ -1,22 +1,32 @@
 // The estimate for C: what include/estimate.h declares. Each function calls the one in Rattle that answers (`estimate_graph` calls `analyse`, the questions call
 // those of a table in words), and gives the answer as numbers.
 use estimate::analyse;
+use longest::longest_path;
+use questions::above_cycles_in;
 use questions::above_in;
 use questions::smallest_budget_in;
+use questions::smallest_cycles_in;
 use questions::spread_in;
 use rules::Amount;
 use rules::Count;
+use rules::Length;
 use rules::Outcome;
+use rules::Time;
 use text::Written;
 use text::curve_of_numbers;
 use text::curve_of_text;
+use text::cycles_of_numbers;
+use text::cycles_of_text;
 ghost use mathlib.Core.Path.{_≡_};
 ghost use lib.ListN.{take};
+ghost use Rattle.rules.specs.Cycles.{aboveCyclesAnswer, cycleBudgetAnswer};
+ghost use Rattle.rules.specs.Input.{inputOf};
+ghost use Rattle.rules.specs.Longest.{longestAnswer};
 ghost use Rattle.rules.specs.Questions.{aboveAnswer, budgetAnswer, spreadAnswer};
 ghost use Rattle.words.specs.Tables.{tableOf};
 ghost use Rattle.estimate.specs.Call.{analysed};
-ghost use Rattle.text.specs.Rooms.{afterNumbers, afterText};
-ghost use Rattle.estimate_c.specs.Given.{graphGiven, amountGiven, countGiven, spreadGiven, numbersGiven, textGiven};
+ghost use Rattle.text.specs.Rooms.{afterNumbers, afterText, afterCyclesOfNumbers, afterCyclesOfText};
+ghost use Rattle.estimate_c.specs.Given.{graphGiven, amountGiven, countGiven, timeGiven, lengthGiven, spreadGiven, numbersGiven, textGiven};
 
 // The graph call.
 #[no_mangle]
@@ -96,6 +106,70 @@ pub extern "C" fn estimate_spread(
     }
 }
 
+// The accesses of the longest path.
+#[no_mangle]
+pub extern "C" fn estimate_longest_path(
+    ways: u32,
+    limit: u32,
+    tracked: &[u32],
+    runs: &[u32],
+    accesses: &[u32],
+    edges: &[u32],
+    longest: &mut u64,
+) -> u64
+    ensures { λ r. ⌜ record { number = r; value = now (longest .exit) } ≡ lengthGiven (longestAnswer (inputOf ways limit (now (tracked .entry)) (now (runs .entry)) (now (accesses .entry)) (now (edges .entry)))) (now (longest .entry)) ⌝ }
+{
+    match longest_path(ways, limit, tracked, runs, accesses, edges) {
+        Length::Accesses(found) => {
+            *longest = found;
+            0
+        }
+        Length::Refused(reason) => reason.number(),
+    }
+}
+
+// The units above a cycle budget.
+#[no_mangle]
+pub extern "C" fn estimate_above_cycles(
+    table: &[u64],
+    states: usize,
+    core: usize,
+    longest: u64,
+    budget: u64,
+    units: &mut u64,
+) -> u64
+    ensures { λ r. ⌜ record { number = r; value = now (units .exit) } ≡ amountGiven (aboveCyclesAnswer (take states (tableOf (now (table .entry)))) core longest budget) (now (units .entry)) ⌝ }
+{
+    match above_cycles_in(table, states, core, longest, budget) {
+        Amount::Units(found) => {
+            *units = found.0;
+            0
+        }
+        Amount::Refused(reason) => reason.number(),
+    }
+}
+
+// The smallest cycle budget for an allowance.
+#[no_mangle]
+pub extern "C" fn estimate_smallest_cycles(
+    table: &[u64],
+    states: usize,
+    core: usize,
+    longest: u64,
+    allowance: u64,
+    cycles: &mut u64,
+) -> u64
+    ensures { λ r. ⌜ record { number = r; value = now (cycles .exit) } ≡ timeGiven (cycleBudgetAnswer (take states (tableOf (now (table .entry)))) core longest allowance) (now (cycles .entry)) ⌝ }
+{
+    match smallest_cycles_in(table, states, core, longest, allowance) {
+        Time::Cycles(found) => {
+            *cycles = found;
+            0
+        }
+        Time::Refused(reason) => reason.number(),
+    }
+}
+
 // The curve of a text.
 #[no_mangle]
 pub extern "C" fn estimate_curve_of_text(
@@ -126,6 +200,41 @@ pub extern "C" fn estimate_curve_of_numbers(
     ensures { λ r. ⌜ record { bytes = r; rooms = record { result = now (result .exit); work = now (work .exit); counts = now (counts .exit); output = now (output .exit) } } ≡ numbersGiven (afterNumbers (now (numbers .entry)) (record { result = now (result .entry); work = now (work .entry); counts = now (counts .entry); output = now (output .entry) })) ⌝ }
 {
     match curve_of_numbers(numbers, result, work, counts, output) {
+        Written::Bytes(n) => n,
+        Written::NoRoom => 0,
+    }
+}
+
+// The curves in cycles of a text.
+#[no_mangle]
+pub extern "C" fn estimate_cycles_of_text(
+    text: &[u8],
+    numbers: &mut [u32],
+    result: &mut [u64],
+    work: &mut [u64],
+    counts: &mut [u64],
+    output: &mut [u8],
+) -> usize
+    ensures { λ r. ⌜ record { bytes = r; numbers = now (numbers .exit); rooms = record { result = now (result .exit); work = now (work .exit); counts = now (counts .exit); output = now (output .exit) } } ≡ textGiven (afterCyclesOfText (now (text .entry)) (now (numbers .entry)) (record { result = now (result .entry); work = now (work .entry); counts = now (counts .entry); output = now (output .entry) })) ⌝ }
+{
+    match cycles_of_text(text, numbers, result, work, counts, output) {
+        Written::Bytes(n) => n,
+        Written::NoRoom => 0,
+    }
+}
+
+// The curves in cycles of numbers in the curve's order.
+#[no_mangle]
+pub extern "C" fn estimate_cycles_of_numbers(
+    numbers: &[u32],
+    result: &mut [u64],
+    work: &mut [u64],
+    counts: &mut [u64],
+    output: &mut [u8],
+) -> usize
+    ensures { λ r. ⌜ record { bytes = r; rooms = record { result = now (result .exit); work = now (work .exit); counts = now (counts .exit); output = now (output .exit) } } ≡ numbersGiven (afterCyclesOfNumbers (now (numbers .entry)) (record { result = now (result .entry); work = now (work .entry); counts = now (counts .entry); output = now (output .entry) })) ⌝ }
+{
+    match cycles_of_numbers(numbers, result, work, counts, output) {
         Written::Bytes(n) => n,
         Written::NoRoom => 0,
     }

@@ -1,19 +1,19 @@
 -- The list of choice sequences is what its name says: there are N ^ L of them for L accesses, and each sequence of L draws
--- below N stands in it exactly once. A sum over them is taken one draw at a time.
+-- below N stands in it exactly once. A sum over them is taken one draw at a time, and a count of them grows with what is counted.
 use mathlib.Core.Path.{_≡_, refl, sym, ap, ap₂, _∙_}
 use mathlib.Core.Bool.{Bool, true, false, cond, _&&_}
 use mathlib.Core.List.{List, [], _∷_, map}
-use Prim.Native.Nat.{ℕ, zero, suc, _+_, _*_, _^_, _≤_, _<_}
-use native.Mathlib.Nat.{pow-zero, pow-succ', le-of-suc-le-suc, not-suc-le-zero, ne-of-gt, eq-or-lt-of-le}
+use Prim.Native.Nat.{ℕ, zero, suc, _+_, _*_, _^_, _≤_, _<_, zero-le}
+use native.Mathlib.Nat.{le-refl, add-le-add, pow-zero, pow-succ', le-of-suc-le-suc, not-suc-le-zero, ne-of-gt, eq-or-lt-of-le}
 use mathlib.Core.Logic.{_⊎_, inl, inr}
 use native.Mathlib.Omega.{arith}
 use lib.Dec.{eqb}
 use lib.ListN.{length, length-append, length-map}
 use borrow.Author.Tests.{eq-eqb, ne-eqb}
 use Rattle.basics.specs.Sums.{sumOver}
-use Rattle.basics.proofs.Sums.{sumTo, sum-append, sum-map}
-use Rattle.machine.specs.Cache.{Cache, access, run}
-use Rattle.machine.specs.Draws.{before, draws}
+use Rattle.basics.proofs.Sums.{sumTo, sum-append, sum-map, sum-each}
+use Rattle.machine.specs.Cache.{Cache, start, access, run}
+use Rattle.machine.specs.Draws.{before, draws, count}
 
 -- there are N ^ L choice sequences of L accesses
 pub draws-many : (N L : ℕ) → length (draws N L) ≡ N ^ L
@@ -96,3 +96,27 @@ total-cons F N c b p = by-first (λ ds. F (run c (b ∷ p) ds)) N (draws N (leng
     by-first G zero ss = refl
     by-first G (suc n) ss =
         sum-append G (before n ss) (map (λ s. n ∷ s) ss) ∙ ap₂ _+_ (by-first G n ss) (sum-map G (λ s. n ∷ s) ss)
+
+-- ---- counts of choice sequences
+
+-- a test that passes wherever another does counts at least as many
+pub count-le : (P Q : Cache → Bool) (N : ℕ) (p : List ℕ) → ((ds : List ℕ) → P (run (start N) p ds) ≡ true → Q (run (start N) p ds) ≡ true)
+    → count P N p ≤ count Q N p
+unfolding count
+count-le P Q N p h = go (draws N (length p))
+  where
+    one : (a b : Bool) → (a ≡ true → b ≡ true) → cond a 1 0 ≤ cond b 1 0
+    one false b t = zero-le
+    one true b t = rw (t refl) (le-refl 1)
+
+    go : (ss : List (List ℕ)) → sumOver (λ ds. cond (P (run (start N) p ds)) 1 0) ss ≤ sumOver (λ ds. cond (Q (run (start N) p ds)) 1 0) ss
+    go [] = zero-le
+    go (s ∷ ss) = add-le-add (one (P (run (start N) p s)) (Q (run (start N) p s)) (h s)) (go ss)
+
+-- all of them, and no count is more
+pub count-all : (N : ℕ) (p : List ℕ) → count (λ c. true) N p ≡ N ^ length p
+unfolding count
+count-all N p = omega (arith, sum-each 1 (draws N (length p)), draws-many N (length p))
+
+pub count-most : (test : Cache → Bool) (N : ℕ) (p : List ℕ) → count test N p ≤ N ^ length p
+count-most test N p = rw (← count-all N p) (count-le test (λ c. true) N p (λ ds h. refl))

@@ -4,8 +4,9 @@ use mathlib.Core.Path.{_≡_, refl, sym, ap, _∙_}
 use mathlib.Core.Logic.{_≢_}
 use mathlib.Core.Bool.{Bool, true, false, _||_, true≢false}
 use mathlib.Core.List.{List, [], _∷_}
-use Prim.Native.Nat.{ℕ, zero, suc, _<_}
+use Prim.Native.Nat.{ℕ, zero, suc, _+_, _<_, _≤_}
 use native.Mathlib.Nat.{le-of-suc-le-suc, not-suc-le-zero}
+use native.Mathlib.Omega.{arith}
 use lib.Dec.{eqb}
 use lib.ListN.{length, getD, set}
 use lib.Seq.{getD-set-same, getD-set-other}
@@ -31,6 +32,19 @@ miss-drawn c b d h l = rw (access-miss c b d h) (getD-set-same (c .ways) d (hold
 
 pub miss-others : (c : Cache) (b d e : ℕ) → holds (c .ways) b ≡ false → e ≢ d → getD (access c b d .ways) e empty ≡ getD (c .ways) e empty
 miss-others c b d e h n = rw (access-miss c b d h) (getD-set-other (c .ways) d e (holding b) empty n)
+
+-- ---- the misses of a path
+
+-- at most one for each access; the other accesses are its hits
+pub run-misses : (c : Cache) (p ds : List ℕ) → run c p ds .misses ≤ c .misses + length p
+unfolding run
+run-misses c [] ds = omega arith
+run-misses c (b ∷ p) [] = omega arith
+run-misses c (b ∷ p) (d ∷ ds) = omega (arith, run-misses (access c b d) p ds, one (holds (c .ways) b) refl)
+  where
+    one : (a : Bool) → holds (c .ways) b ≡ a → access c b d .misses ≤ suc (c .misses)
+    one true h = rw (access-hit c b d h) (omega arith)
+    one false h = rw (access-miss c b d h) (omega arith)
 
 -- ---- what is held after a way is overwritten
 

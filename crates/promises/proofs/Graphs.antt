@@ -1,9 +1,8 @@
 -- A graph, along a path: each node's table is worth no less than its predecessors' are along its run, so from node to node nothing is
 -- lost, whichever edges the path takes. A straight run is the graph of one node.
 use mathlib.Core.Path.{_≡_, refl, sym, ap, _∙_, subst}
-use mathlib.Core.Bool.{Bool, true, false, cond, _||_, _&&_, true≢false}
-use mathlib.Core.List.{List, [], _∷_, _++_, flatMap, map-append, append-assoc, append-nil}
-use mathlib.Core.Logic.{_⊎_, inl, inr}
+use mathlib.Core.Bool.{true, true≢false}
+use mathlib.Core.List.{List, [], _∷_, _++_, map-append}
 use Prim.Native.Nat.{ℕ, _-_, _*_, _^_, _≤_, _<_}
 use native.Mathlib.Nat.{le-refl, le-trans, le-of-eq, mul-le-mul-left}
 use native.Mathlib.Omega.{arith}
@@ -11,13 +10,13 @@ use lib.Dec.{eqb}
 use lib.ListN.{length, getD, take, drop, length-append}
 use lib.Pow.{pow-add}
 use lib.Seq.{take-length}
-use borrow.Author.Tests.{eqb-true, eq-eqb}
+use borrow.Author.Tests.{eq-eqb}
 use Rattle.basics.specs.Sums.{sumOver}
-use Rattle.basics.proofs.Bools.{and-left, and-right, or-cases, or-left, or-right}
+use Rattle.basics.proofs.Bools.{or-left}
 use Rattle.rules.specs.declared.State.{State}
 use Rattle.rules.specs.Units.{whole}
 use Rattle.rules.specs.Contents.{among, find}
-use Rattle.rules.specs.Input.{Input, nodes, offset, runOf, Edge, edgesOf, predecessors}
+use Rattle.rules.specs.Input.{Input, nodes, offset, runOf, edgesOf, predecessors}
 use Rattle.rules.specs.Table.{begin, total, Work}
 use Rattle.rules.specs.Run.{run}
 use Rattle.rules.specs.Fold.{folded}
@@ -28,8 +27,9 @@ use Rattle.rules.proofs.Table.{worth}
 use Rattle.rules.proofs.Join.{shaped-join, join-total}
 use Rattle.rules.proofs.Refusals.{Checked, predecessor-lower}
 use Rattle.rules.proofs.Run.{table-join}
-use Rattle.rules.proofs.Graph.{nodeTable, table-stays, finished-table, first-and-others, table-enter, node-table}
-use Rattle.promises.specs.Paths.{linked, leads, isPath, accessesOf}
+use Rattle.rules.proofs.Graph.{nodeTable, table-stays, finished-table, first-and-others, first-or-other, table-enter, node-table}
+use Rattle.promises.specs.Paths.{isPath, accessesOf}
+use Rattle.promises.proofs.Paths.{along-path}
 use Rattle.promises.proofs.Value.{value, Rises, value-rises, value-append, placesOf}
 use Rattle.promises.proofs.Folds.{kept-folded}
 use Rattle.promises.proofs.Joins.{join-above}
@@ -60,15 +60,6 @@ module _ (N k K M : ℕ) (some : 0 < N) (room : 0 < K) where
     abbrev Tables : List ℕ → Type 0
     Tables is = (j : ℕ) → among is j ≡ true → Table N k K M (tableAt d j)
 
-    -- what is below U, of the first and of each of the others
-    below-each : (U : List State) (i : ℕ) (is : List ℕ) → Below (tableAt d i) U → ((j : ℕ) → among is j ≡ true → Below (tableAt d j) U)
-        → (j : ℕ) → among (i ∷ is) j ≡ true → Below (tableAt d j) U
-    below-each U i is b c j e = go (or-cases (eqb i j) (among is j) e)
-      where
-        go : (eqb i j ≡ true) ⊎ (among is j ≡ true) → Below (tableAt d j) U
-        go (inl q) = rw (← eqb-true i j q) b
-        go (inr q) = c j q
-
     joinAll-above : (is : List ℕ) (w : Work) → Tables is → Table N k K M (w .table)
         → Below (w .table) (joinAll K d is w .table) × ((j : ℕ) → among is j ≡ true → Below (tableAt d j) (joinAll K d is w .table))
     unfolding joinAll
@@ -79,7 +70,7 @@ module _ (N k K M : ℕ) (some : 0 < N) (room : 0 < K) where
         let (x, y) = joined-above (w .table) (tableAt d i) (w .aside) t p in
         let (z, rest) = joinAll-above is v q (table-join N k K some room M (w .table) (tableAt d i) (w .aside) t p) in (
           λ f r. le-trans (x f r) (z f r),
-          below-each (joinAll K d is v .table) i is (λ f r. le-trans (y f r) (z f r)) rest,
+          first-or-other (λ j. Below (tableAt d j) (joinAll K d is v .table)) i is (λ f r. le-trans (y f r) (z f r)) rest,
         )
 
     pub enter-above : (is : List ℕ) → Tables is → (j : ℕ) → among is j ≡ true → Below (tableAt d j) (enter K d is .table)
@@ -89,22 +80,9 @@ module _ (N k K M : ℕ) (some : 0 < N) (room : 0 < K) where
         let (p, q) = first-and-others (λ j. Table N k K M (tableAt d j)) i is h in
         let w : Work = record { table = tableAt d i; aside = d .aside } in
         let (z, rest) = joinAll-above is w q p in
-        below-each (joinAll K d is w .table) i is z rest j e
+        first-or-other (λ j. Below (tableAt d j) (joinAll K d is w .table)) i is z rest j e
 
 -- ---- from node to node
-
--- a listed edge comes from a predecessor
-linked-pred : (es : List Edge) (a b : ℕ) → linked es a b ≡ true → among (predecessors es b) a ≡ true
-unfolding predecessors
-linked-pred [] a b h = h
-linked-pred (e ∷ es) a b h = go (eqb (e .from) a) (eqb (e .to) b) refl h (linked-pred es a b)
-  where
-    go : (x y : Bool) → eqb (e .from) a ≡ x → (x && y || linked es a b) ≡ true → (linked es a b ≡ true → among (predecessors es b) a ≡ true)
-        → among (cond y (e .from ∷ predecessors es b) (predecessors es b)) a ≡ true
-    go true true p h ih = or-left (eqb (e .from) a) _ p
-    go false true p h ih = or-right (eqb (e .from) a) _ (ih h)
-    go true false p h ih = ih h
-    go false false p h ih = ih h
 
 module _ (i : Input) (ok : Checked i) where
   abbrev N : ℕ
@@ -161,31 +139,13 @@ module _ (i : Input) (ok : Checked i) where
       rw (map-append (find (i .tracked)) p bs, value-append f N (placesOf (i .tracked) p) (placesOf (i .tracked) bs), length-append p bs, pow-add N (length p) (length bs))
       (le-trans (c (value f N (placesOf (i .tracked) bs)) (value-rises N f rises (placesOf (i .tracked) bs))) (omega (arith, mul-le-mul-left (N ^ length p) (l f rises))))
 
-  onward : (z a : ℕ) (q p : List ℕ) → Covers p (nodeTable i a) → leads (edgesOf (i .edges)) z a q ≡ true
-      → Covers (p ++ flatMap (runOf i) q) (nodeTable i z)
-  unfolding flatMap
-  onward z a [] p c h = rw (append-nil p, ← eqb-true a z h) c
-  onward z a (b ∷ q) p c h =
-      let e = linked-pred (edgesOf (i .edges)) a b (and-left (linked (edgesOf (i .edges)) a b) _ h) in
-      rw (← append-assoc p (runOf i b) (flatMap (runOf i) q))
-      (onward z b q (p ++ runOf i b)
-      (covers-on p (runOf i b) (nodeTable i a) (nodeTable i b) c (node-leads b (predecessor-lower i ok a b e .1) a e))
-      (and-right (linked (edgesOf (i .edges)) a b) _ h))
-
   -- every path from first node to last leads from the start to the finished table
   pub path-covers : (path : List ℕ) → isPath i path ≡ true → Covers (accessesOf i path) (finished i .table)
-  unfolding isPath accessesOf flatMap
-  path-covers [] h = absurd (true≢false (sym h))
-  path-covers (a ∷ q) h =
-      rw (finished-table i (ok .some-nodes), eqb-true a 0 first)
-      (onward (nodes i - 1) 0 q (runOf i 0) begun (subst (λ (n : ℕ). leads (edgesOf (i .edges)) (nodes i - 1) n q ≡ true) (eqb-true a 0 first) rest))
+  path-covers path h =
+      rw (finished-table i (ok .some-nodes))
+      (along-path i (λ p a. Covers p (nodeTable i a))
+      (λ p a b e c. covers-on p (runOf i b) (nodeTable i a) (nodeTable i b) c (node-leads b (predecessor-lower i ok a b e .1) a e)) begun path h)
     where
-      first : eqb a 0 ≡ true
-      first = and-left (eqb a 0) _ h
-
-      rest : leads (edgesOf (i .edges)) (nodes i - 1) a q ≡ true
-      rest = and-right (eqb a 0) _ h
-
       begun : Covers (runOf i 0) (nodeTable i 0)
       begun f r =
           le-trans (omega arith)

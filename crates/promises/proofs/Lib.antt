@@ -10,8 +10,12 @@ pub mod Folds
 pub mod Joins
 -- Runs, from their first access to their last, and graphs along a path
 pub mod Runs
+pub mod Paths
 pub mod Graphs
+-- The longest path
+pub mod Longest
 -- The promises
 pub mod Straight
 pub mod Weights
+pub mod Cycles
 pub mod Promises

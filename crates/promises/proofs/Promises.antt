@@ -4,25 +4,32 @@ use mathlib.Core.Path.{_≡_, sym, _∙_}
 use mathlib.Core.Bool.{true}
 use mathlib.Core.Logic.{⊎-elim}
 use mathlib.Core.List.{List}
-use Prim.Native.Nat.{ℕ, _+_, _*_, _^_, _≤_}
-use native.Mathlib.Nat.{mul-le-mul-right}
+use Prim.Native.Nat.{ℕ, _+_, _*_, _^_, _≤_, _<_}
+use native.Mathlib.Nat.{le-refl, mul-le-mul-right}
 use native.Mathlib.Omega.{arith}
 use lib.ListN.{length}
 use Rattle.machine.specs.Draws.{count}
-use Rattle.rules.specs.Answers.{outcomeSays}
+use Rattle.rules.specs.declared.Verdict.the-variants.{Accepted}
+use Rattle.rules.specs.Answers.{first, outcomeSays}
 use Rattle.rules.specs.Input.{Input, nodes}
 use Rattle.rules.specs.Questions.{isTable, above}
+use Rattle.rules.specs.Cycles.{cores, coreAt, aboveCycles, cycleReasons}
+use Rattle.rules.specs.Longest.{longest}
 use Rattle.rules.specs.Graph.{finished}
 use Rattle.rules.specs.Refusals.{outcome}
 use Rattle.rules.specs.Table.{total}
 use Rattle.rules.specs.Units.{whole}
 use Rattle.rules.proofs.Refusals.{accepted, says-aside}
 use Rattle.rules.proofs.Questions.{finished-whole, finished-is-table}
+use Rattle.rules.proofs.Cycles.{miss-above-hit, cycles-accepted}
+use Rattle.rules.proofs.Longest.{longest-most, finished-within}
 use Rattle.promises.specs.Paths.{isPath, accessesOf, allTracked}
-use Rattle.promises.specs.Ends.{over, endsWith, unitsWith}
+use Rattle.promises.specs.Ends.{over, overCycles, endsWith, unitsWith}
 use Rattle.promises.proofs.Graphs.{path-covers}
+use Rattle.promises.proofs.Longest.{no-longer, longest-straight}
 use Rattle.promises.proofs.Straight.{machine-start, machine-even, straight-high, straight-even, below-whole}
 use Rattle.promises.proofs.Weights.{oneWhere, one-most, overIs, over-rises, worth-above, count-over, atIs, worth-with, count-with}
+use Rattle.promises.proofs.Cycles.{cycles-safe, cycles-tight}
 
 -- Safe, the first half of point 3. For every accepted graph, every path from first node to last and every budget B:
 -- (choice sequences with more misses than B) × 2^48 ≤ (units above B) × N^L.
@@ -61,3 +68,36 @@ exact i ok one all none C m =
 -- Whole. Units always total 2^48, and the finished table is a table by section 4, so that the questions accept it.
 pub whole-table : (i : Input) → outcomeSays (outcome i) .number ≡ 0 → (total (finished i .table) ≡ whole) × (isTable (finished i .table) ≡ true)
 whole-table i ok = (finished-whole i ok, finished-is-table i ok)
+
+-- ---- in cycles: L are the accesses of the longest path, handed in with the table, k is the number of a core
+
+-- Safe in cycles, the first half of point 3. For every accepted graph, every path, core and cycle budget B, with the path's own cycles:
+-- (choice sequences that take more cycles than B) × 2^48 ≤ (units above B in cycles) × N^(accesses of the path).
+pub safe-cycles : (i : Input) → outcomeSays (outcome i) .number ≡ 0 → (L : ℕ) → L ≡ longest i → (path : List ℕ) → isPath i path ≡ true
+    → (k : ℕ) → k < length cores → (B : ℕ)
+    → count (overCycles (coreAt k) (length (accessesOf i path)) B) (i .ways) (accessesOf i path) * whole
+    ≤ aboveCycles (coreAt k) L B (finished i .table) * i .ways ^ length (accessesOf i path)
+safe-cycles i ok L e path p k known =
+    let c = accepted i ok in
+    cycles-safe (coreAt k) (miss-above-hit k known) L (i .ways) (accessesOf i path) (rw e (no-longer i c path p))
+    (finished i .table) (finished-whole i ok) (rw e (finished-within i c)) (safe i ok path p)
+
+-- Tight in cycles, the second half of point 3. On a straight run with every block tracked the excess is at most set aside × N^L.
+pub tight-cycles : (i : Input) → outcomeSays (outcome i) .number ≡ 0 → nodes i ≡ 1 → allTracked (i .tracked) (i .accesses) ≡ true
+    → (L : ℕ) → L ≡ longest i → (k : ℕ) → k < length cores → (B : ℕ)
+    → aboveCycles (coreAt k) L B (finished i .table) * i .ways ^ length (i .accesses)
+    ≤ count (overCycles (coreAt k) (length (i .accesses)) B) (i .ways) (i .accesses) * whole
+    + outcomeSays (outcome i) .aside * i .ways ^ length (i .accesses)
+tight-cycles i ok one all L e k known =
+    let c = accepted i ok in
+    let straight = longest-straight i c one in
+    rw (e ∙ straight)
+    (cycles-tight (coreAt k) (miss-above-hit k known) (length (i .accesses)) (i .ways) (i .accesses) (le-refl (length (i .accesses)))
+    (finished i .table) (finished-whole i ok) (rw (← straight) (finished-within i c)) (outcomeSays (outcome i) .aside) (tight i ok one all))
+
+-- Asked in cycles. The questions in cycles accept the finished table with its longest path, for every core.
+pub asked-cycles : (i : Input) → outcomeSays (outcome i) .number ≡ 0 → (L : ℕ) → L ≡ longest i → (k : ℕ) → k < length cores
+    → first (cycleReasons k L (finished i .table)) ≡ Accepted
+asked-cycles i ok L e k known =
+    let c = accepted i ok in
+    cycles-accepted (finished i .table) k L known (omega (arith, longest-most i c, c .few-accesses)) (finished-is-table i ok) (rw e (finished-within i c))

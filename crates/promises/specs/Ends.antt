@@ -6,11 +6,18 @@ use lib.Dec.{eqb, ltb}
 use Rattle.basics.specs.Sums.{sumOver}
 use Rattle.machine.specs.Cache.{Way, holds, Cache}
 use Rattle.rules.specs.declared.State.{State}
+use Rattle.rules.specs.declared.Core.{Core}
 use Rattle.rules.specs.Table.{unitsOf}
+use Rattle.rules.specs.Cycles.{cyclesOf}
 
 -- the cache had more misses than the budget
 abbrev pub over : ℕ → Cache → Bool
 over B c = ltb B (c .misses)
+
+-- a path of n accesses that ended in this cache took more cycles than the budget: its misses at miss cycles, its hits, the rest of its
+-- accesses, at hit cycles
+abbrev pub overCycles : Core → ℕ → ℕ → Cache → Bool
+overCycles c n B k = ltb B (cyclesOf c n (k .misses))
 
 -- the contents mask of the tracked blocks that the ways hold: bit i for the block at place i of the list
 unfoldable pub contentsOf : List ℕ → List Way → ℕ

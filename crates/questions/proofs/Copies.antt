@@ -1,7 +1,7 @@
 -- The first states of a table in words are the table of the first words. A row that is copied state by state, 65 at most, is asked as
 -- the row itself: a row of more is no table, and its first 65 states are none either.
 use mathlib.Core.Path.{_≡_, refl, sym, ap, _∙_}
-use mathlib.Core.Bool.{Bool, true, false}
+use mathlib.Core.Bool.{Bool, true, false, cond, not}
 use mathlib.Core.List.{List, [], _∷_, _++_, append-nil, append-assoc}
 use Prim.Native.Nat.{ℕ, _+_, _*_, _/_, _≤_, _<_}
 use native.Mathlib.Nat.{le-of-eq}
@@ -11,9 +11,15 @@ use borrow.Author.Tests.{leb-true, leb-false, ltb-true, ltb-false, lt-ltb, le-lt
 use lib.Dec.{leb, ltb}
 use lib.ListN.{length, take, length-replicate}
 use lib.Seq.{length-take-le, take-all, take-at, take-suc-set}
+use Rattle.rules.specs.declared.Refusal.{Refusal}
+use Rattle.rules.specs.declared.Refusal.the-variants.{NoCore, Accesses, Row}
 use Rattle.rules.specs.declared.State.{State}
+use Rattle.rules.specs.declared.Verdict.the-variants.{Refused}
+use Rattle.rules.specs.Answers.{first}
 use Rattle.rules.specs.Questions.{isTable, aboveAnswer, budgetAnswer, spreadAnswer}
+use Rattle.rules.specs.Cycles.{cores, cycleReasons, aboveCyclesAnswer, cycleBudgetAnswer}
 use Rattle.rules.proofs.Questions.{no-table, above-refused, budget-refused, spread-refused}
+use Rattle.rules.proofs.Cycles.{above-cycles-refused, cycle-budget-refused}
 use Rattle.words.specs.Tables.{tableOf, stored}
 use Rattle.words.proofs.Tables.{length-tableOf, length-stored, table-stored, table-take}
 use Rattle.questions.specs.declared.row.Held.{Held}
@@ -104,3 +110,22 @@ budget-copied row u = asked-alike (λ T. budgetAnswer T u) _ (λ T h. budget-ref
 
 pub spread-copied : (row : List State) (room : List ℕ) → spreadAnswer (statesOf (copied row)) room ≡ spreadAnswer row room
 spread-copied row room = asked-alike (λ T. spreadAnswer T room) _ (λ T h. spread-refused T h room) row
+
+-- in cycles the core and the longest path may refuse a row before it is looked at
+abbrev unread : ℕ → ℕ → Refusal
+unread k L = cond (ltb k (length cores)) (cond (ltb 4096 L) Accesses Row) NoCore
+
+cycles-refused : (k L : ℕ) (T : List State) → isTable T ≡ false → first (cycleReasons k L T) ≡ Refused (unread k L)
+unfolding cycleReasons
+cycles-refused k L T h = rw h (go (ltb k (length cores)) (ltb 4096 L))
+  where
+    go : (a b : Bool) → cond (not a) (Refused NoCore) (cond b (Refused Accesses) (Refused Row)) ≡ Refused (cond a (cond b Accesses Row) NoCore)
+    go true true = refl
+    go true false = refl
+    go false b = refl
+
+pub above-cycles-copied : (row : List State) (k L B : ℕ) → aboveCyclesAnswer (statesOf (copied row)) k L B ≡ aboveCyclesAnswer row k L B
+above-cycles-copied row k L B = asked-alike (λ T. aboveCyclesAnswer T k L B) _ (λ T h. above-cycles-refused T k L _ (cycles-refused k L T h) B) row
+
+pub cycle-budget-copied : (row : List State) (k L u : ℕ) → cycleBudgetAnswer (statesOf (copied row)) k L u ≡ cycleBudgetAnswer row k L u
+cycle-budget-copied row k L u = asked-alike (λ T. cycleBudgetAnswer T k L u) _ (λ T h. cycle-budget-refused T k L _ (cycles-refused k L T h) u) row

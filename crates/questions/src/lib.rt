@@ -1,22 +1,29 @@
-// Questions put to a finished table: document 01, section 4. Each is asked of a lent row of states, or of a table in words.
+// Questions put to a finished table: document 01, section 4, and document 02, request 9/13. Each is asked of a lent row of states, or of a table in words.
 use crate::answers::above_of;
 use crate::answers::budget_of;
 use crate::answers::span;
 use crate::answers::spread_of;
+use crate::cycles::above_cycles_of;
+use crate::cycles::cycle_budget_of;
+use crate::row::above_cycles_held;
 use crate::row::above_held;
 use crate::row::budget_held;
 use crate::row::copy;
+use crate::row::cycle_budget_held;
 use crate::row::spread_held;
 use rules::Amount;
 use rules::Count;
 use rules::State;
+use rules::Time;
 ghost use mathlib.Core.Path.{_≡_};
 ghost use lib.ListN.{take};
 ghost use Rattle.rules.specs.Questions.{aboveAnswer, budgetAnswer, spreadAnswer};
+ghost use Rattle.rules.specs.Cycles.{aboveCyclesAnswer, cycleBudgetAnswer};
 ghost use Rattle.words.specs.Tables.{tableOf};
 
 mod answers;
 mod counts;
+mod cycles;
 mod row;
 mod states;
 mod sums;
@@ -45,6 +52,20 @@ pub fn spread(row: &[State], room: &mut [u64]) -> Count
     spread_held(copy(row), room)
 }
 
+// The units above a cycle budget, on the core of that number, where the longest path has `longest` accesses.
+pub fn above_cycles(row: &[State], core: usize, longest: u64, budget: u64) -> Amount
+    ensures { λ r. ⌜ r ≡ aboveCyclesAnswer (now (row .entry)) core longest budget ⌝ }
+{
+    above_cycles_held(copy(row), core, longest, budget)
+}
+
+// The smallest cycle budget whose units above are at most `units`, on that core.
+pub fn smallest_cycles(row: &[State], core: usize, longest: u64, units: u64) -> Time
+    ensures { λ r. ⌜ r ≡ cycleBudgetAnswer (now (row .entry)) core longest units ⌝ }
+{
+    cycle_budget_held(copy(row), core, longest, units)
+}
+
 // ---- of the first `states` states of a table in words, or of all that there are: what the graph call left in its result room
 
 pub fn above_in(words: &[u64], states: usize, budget: u64) -> Amount
@@ -66,4 +87,30 @@ pub fn spread_in(words: &[u64], states: usize, room: &mut [u64]) -> Count
 {
     let end = span(words.len(), states);
     spread_of(&words[..end], room)
+}
+
+pub fn above_cycles_in(
+    words: &[u64],
+    states: usize,
+    core: usize,
+    longest: u64,
+    budget: u64,
+) -> Amount
+    ensures { λ r. ⌜ r ≡ aboveCyclesAnswer (take states (tableOf (now (words .entry)))) core longest budget ⌝ }
+{
+    let end = span(words.len(), states);
+    above_cycles_of(&words[..end], core, longest, budget)
+}
+
+pub fn smallest_cycles_in(
+    words: &[u64],
+    states: usize,
+    core: usize,
+    longest: u64,
+    units: u64,
+) -> Time
+    ensures { λ r. ⌜ r ≡ cycleBudgetAnswer (take states (tableOf (now (words .entry)))) core longest units ⌝ }
+{
+    let end = span(words.len(), states);
+    cycle_budget_of(&words[..end], core, longest, units)
 }

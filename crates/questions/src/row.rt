@@ -1,12 +1,16 @@
 // A lent row of states, by value: what is asked of it is asked of its words.
+use crate::above_cycles_in;
 use crate::above_in;
 use crate::smallest_budget_in;
+use crate::smallest_cycles_in;
 use crate::spread_in;
 use rules::Amount;
 use rules::Count;
 use rules::State;
+use rules::Time;
 ghost use mathlib.Core.Path.{_≡_};
 ghost use Rattle.rules.specs.Questions.{aboveAnswer, budgetAnswer, spreadAnswer};
+ghost use Rattle.rules.specs.Cycles.{aboveCyclesAnswer, cycleBudgetAnswer};
 ghost use Rattle.questions.specs.Rows.{nothingHeld, oneMore, copied, statesOf};
 
 // The first states of a row, 65 at most: one more than a table has.
@@ -73,4 +77,18 @@ pub(crate) fn spread_held(held: Held, room: &mut [u64]) -> Count
 {
     let words = held.words;
     spread_in(&words, held.states, room)
+}
+
+pub(crate) fn above_cycles_held(held: Held, core: usize, longest: u64, budget: u64) -> Amount
+    ensures { λ r. ⌜ r ≡ aboveCyclesAnswer (statesOf held) core longest budget ⌝ }
+{
+    let words = held.words;
+    above_cycles_in(&words, held.states, core, longest, budget)
+}
+
+pub(crate) fn cycle_budget_held(held: Held, core: usize, longest: u64, units: u64) -> Time
+    ensures { λ r. ⌜ r ≡ cycleBudgetAnswer (statesOf held) core longest units ⌝ }
+{
+    let words = held.words;
+    smallest_cycles_in(&words, held.states, core, longest, units)
 }

@@ -3,16 +3,16 @@
 use mathlib.Core.Path.{_≡_, refl, ap, _∙_, subst}
 use mathlib.Core.Bool.{true}
 use mathlib.Core.List.{List, [], _∷_, _++_}
-use mathlib.Core.Logic.{_⊎_, inl, inr}
-use Prim.Native.Nat.{ℕ, zero, suc, _+_, _-_, _≤_, _<_}
-use native.Mathlib.Nat.{le-refl, min-le-left, eq-or-lt-of-le, le-of-suc-le-suc, not-suc-le-zero}
+use mathlib.Core.Logic.{_⊎_, inl, inr, ⊎-elim}
+use Prim.Native.Nat.{ℕ, zero, suc, _+_, _-_, _≤_, _<_, zero-le}
+use native.Mathlib.Nat.{le-refl, eq-or-lt-of-le, le-of-suc-le-suc, not-suc-le-zero}
 use native.Mathlib.Omega.{arith}
 use lib.Dec.{eqb}
-use lib.ListN.{length, getD, take, drop, length-append, length-take, List·getD-append}
-use lib.Seq.{getD-at, take-suc, take-length, take-nil}
-use borrow.Author.Tests.{eq-eqb}
+use lib.ListN.{length, getD, take, drop, length-append, length-drop, List·getD-append}
+use lib.Seq.{getD-at, take-suc, take-nil, length-take-le}
+use borrow.Author.Tests.{eqb-true, eq-eqb}
 use Rattle.basics.specs.Sums.{sumOver}
-use Rattle.basics.proofs.Bools.{or-left, or-right}
+use Rattle.basics.proofs.Bools.{or-cases, or-left, or-right}
 use Rattle.basics.proofs.Sums.{sum-append}
 use Rattle.rules.specs.Units.{whole}
 use Rattle.rules.specs.Contents.{among, find}
@@ -57,6 +57,10 @@ finished-table i h = table-stays i (nodes i) (nodes i - 1) (omega arith)
 pub first-and-others : (P : ℕ → Type 0) (a : ℕ) (is : List ℕ) → ((j : ℕ) → among (a ∷ is) j ≡ true → P j) → P a × ((j : ℕ) → among is j ≡ true → P j)
 first-and-others P a is h = (h a (or-left (eqb a a) _ (eq-eqb a a refl)), λ j e. h j (or-right (eqb a j) (among is j) e))
 
+-- and what is so of it and of them is so of each
+pub first-or-other : (P : ℕ → Type 0) (a : ℕ) (is : List ℕ) → P a → ((j : ℕ) → among is j ≡ true → P j) → (j : ℕ) → among (a ∷ is) j ≡ true → P j
+first-or-other P a is p q j e = ⊎-elim (λ h. subst P (eqb-true a j h) p) (q j) (or-cases (eqb a j) (among is j) e)
+
 module _ (N k K : ℕ) (some : 0 < N) (room : 0 < K) (M : ℕ) (d : Worked) where
   pub table-joinAll : (is : List ℕ) (w : Work) → ((j : ℕ) → among is j ≡ true → Table N k K M (tableAt d j))
       → Table N k K M (w .table) → Table N k K M (joinAll K d is w .table)
@@ -97,19 +101,21 @@ aside-worked i some room zero = omega arith
 aside-worked i some room (suc n) =
     aside-run (i .ways) (i .limit) some room (i .tracked) (runOf i n) _ (aside-enter (i .limit) (worked i n) (predecessors (edgesOf (i .edges)) n) (aside-worked i some room n))
 
--- ---- every node
-
--- the run of a node is no longer than its length says
-pub length-runOf : (i : Input) (j : ℕ) → length (runOf i j) ≤ getD (i .lengths) j 0
-unfolding runOf
-length-runOf i j =
-    rw (length-take (getD (i .lengths) j 0) (drop (offset (i .lengths) j) (i .accesses))) (min-le-left _ _)
+-- ---- the runs
 
 -- the next run starts behind this one
 pub offset-next : (lengths : List ℕ) (j : ℕ) → j < length lengths → offset lengths (suc j) ≡ getD lengths j 0 + offset lengths j
 unfolding offset
 offset-next lengths j l =
     ap (sumOver (λ n. n)) (take-suc lengths j 0 l) ∙ sum-append (λ n. n) (take j lengths) (getD lengths j 0 ∷ []) ∙ omega arith
+
+-- a later one starts no earlier
+pub offset-rises : (lengths : List ℕ) (a b : ℕ) → a ≤ b → offset lengths a ≤ offset lengths b
+unfolding offset
+offset-rises [] a b l = rw (take-nil a) zero-le
+offset-rises (n ∷ lengths) zero b l = zero-le
+offset-rises (n ∷ lengths) (suc a) zero l = absurd (not-suc-le-zero l)
+offset-rises (n ∷ lengths) (suc a) (suc b) l = omega (arith, offset-rises lengths a b (le-of-suc-le-suc l))
 
 -- and ends within the access list, if the lengths add up to its length
 pub offset-most : (lengths : List ℕ) (j : ℕ) → offset lengths j ≤ sumOver (λ n. n) lengths
@@ -118,44 +124,55 @@ offset-most [] j = rw (take-nil j) (omega arith)
 offset-most (n ∷ lengths) zero = omega arith
 offset-most (n ∷ lengths) (suc j) = omega (arith, offset-most lengths j)
 
+module _ (i : Input) (ok : Checked i) (j : ℕ) (l : j < nodes i) where
+  -- a node's run lies within the access list
+  pub run-within : getD (i .lengths) j 0 + offset (i .lengths) j ≤ length (i .accesses)
+  run-within = omega (arith, offset-next (i .lengths) j l, offset-most (i .lengths) (suc j), ok .all-accesses)
+
+  -- and is as long as its length says
+  pub run-long : length (runOf i j) ≡ getD (i .lengths) j 0
+  unfolding runOf
+  run-long = length-take-le (getD (i .lengths) j 0) (drop (offset (i .lengths) j) (i .accesses)) (omega (arith, run-within, length-drop (offset (i .lengths) j) (i .accesses)))
+
+-- ---- every node
+
 module _ (i : Input) (ok : Checked i) where
+  -- what each node has whose predecessors have it, all nodes have
+  pub each-node : (P : ℕ → Type 0) → ((n : ℕ) → n < nodes i → ((a : ℕ) → among (predecessors (edgesOf (i .edges)) n) a ≡ true → P a) → P n)
+      → (n : ℕ) → n < nodes i → P n
+  each-node P step n l = lower (suc n) n (le-refl (suc n)) l
+    where
+      lower : (m n : ℕ) → n < m → n < nodes i → P n
+      lower zero n k l = absurd (not-suc-le-zero k)
+      lower (suc m) n k l =
+          step n l (λ a e. let a<n = predecessor-lower i ok a n e .0 in lower m a (omega (arith, a<n)) (omega (arith, a<n)))
+
   abbrev pub NodeTable : ℕ → ℕ → Type 0
   NodeTable M j = Table (i .ways) (length (i .tracked)) (i .limit) M (nodeTable i j)
 
-  -- a node whose predecessors' tables are tables
-  table-node : (n : ℕ) → n < nodes i → ((j : ℕ) → j < n → NodeTable (offset (i .lengths) n) j) → NodeTable (offset (i .lengths) (suc n)) n
+  -- a node whose predecessors' tables are tables of at most M misses
+  pub table-node : (M n : ℕ) → n < nodes i → ((a : ℕ) → among (predecessors (edgesOf (i .edges)) n) a ≡ true → NodeTable M a)
+      → NodeTable (getD (i .lengths) n 0 + M) n
   unfolding node
-  table-node n l h =
-      table-wider N k K _ _ _ (omega (arith, length-runOf i n, offset-next (i .lengths) n l))
-      (table-run N K (i .tracked) (ok .some-ways) (ok .some-states) M (runOf i n) _
-      (table-enter N k K (ok .some-ways) (ok .some-states) M (worked i n) (predecessors (edgesOf (i .edges)) n)
-      (λ j e. let j<n = predecessor-lower i ok j n e .0 in rw (table-stays i n j j<n) (h j j<n))))
-    where
-      N : ℕ
-      N = i .ways
+  table-node M n l h =
+      rw (← run-long i ok n l)
+      (table-run (i .ways) (i .limit) (i .tracked) (ok .some-ways) (ok .some-states) M (runOf i n) _
+      (table-enter (i .ways) (length (i .tracked)) (i .limit) (ok .some-ways) (ok .some-states) M (worked i n) (predecessors (edgesOf (i .edges)) n)
+      (λ a e. rw (table-stays i n a (predecessor-lower i ok a n e .0)) (h a e))))
 
-      k : ℕ
-      k = length (i .tracked)
-
-      K : ℕ
-      K = i .limit
-
-      M : ℕ
-      M = offset (i .lengths) n
+  -- a table's misses are at most the accesses up to the end of its node's run
+  table-so-far : (n : ℕ) → n < nodes i → NodeTable (offset (i .lengths) (suc n)) n
+  table-so-far =
+      each-node (λ n. NodeTable (offset (i .lengths) (suc n)) n)
+      (λ n l h. rw (offset-next (i .lengths) n l)
+      (table-node (offset (i .lengths) n) n l
+      (λ a e. table-wider _ _ _ _ _ (nodeTable i a) (offset-rises (i .lengths) (suc a) n (predecessor-lower i ok a n e .0)) (h a e))))
 
   -- the misses of the first n nodes are at most the accesses of their runs
   pub every-node : (n : ℕ) → n ≤ nodes i → (j : ℕ) → j < n → NodeTable (offset (i .lengths) n) j
-  every-node zero l j k = absurd (not-suc-le-zero k)
-  every-node (suc n) l j k = go (eq-or-lt-of-le (le-of-suc-le-suc k)) (every-node n (omega arith))
-    where
-      go : (j ≡ n) ⊎ (j < n) → ((j : ℕ) → j < n → NodeTable (offset (i .lengths) n) j) → NodeTable (offset (i .lengths) (suc n)) j
-      go (inl e) ih = rw e (table-node n l ih)
-      go (inr h) ih = table-wider _ _ _ _ _ _ (omega (arith, offset-next (i .lengths) n l)) (ih j h)
+  every-node n l j k = table-wider _ _ _ _ _ (nodeTable i j) (offset-rises (i .lengths) (suc j) n k) (table-so-far j (omega arith))
 
   -- in all, at most the accesses
   pub node-table : (j : ℕ) → j < nodes i → NodeTable (length (i .accesses)) j
-  unfolding offset
-  node-table j l = subst (λ (M : ℕ). NodeTable M j) (all ∙ ok .all-accesses) (every-node (nodes i) (le-refl _) j l)
-    where
-      all : offset (i .lengths) (nodes i) ≡ sumOver (λ n. n) (i .lengths)
-      all = ap (sumOver (λ n. n)) (take-length (i .lengths))
+  node-table j l =
+      table-wider _ _ _ _ _ (nodeTable i j) (omega (arith, offset-most (i .lengths) (suc j), ok .all-accesses)) (table-so-far j l)

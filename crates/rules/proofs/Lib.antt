@@ -19,7 +19,11 @@ pub mod Run
 pub mod Graph
 -- The rooms of a call
 pub mod Rooms
+-- The longest path
+pub mod Longest
 -- The questions
 pub mod Questions
+-- Curves in cycles
+pub mod Cycles
 -- The worked numbers of document 01
 pub mod WorkedNumbers

@@ -3,7 +3,7 @@
 -- the total. What the work finishes is accepted as a table.
 use mathlib.Core.Path.{_≡_, refl, sym, ap, _∙_}
 use mathlib.Core.Logic.{_⊎_, inl, inr}
-use mathlib.Core.Bool.{Bool, true, false, cond, _&&_}
+use mathlib.Core.Bool.{Bool, true, false, cond, _&&_, true≢false}
 use mathlib.Core.List.{List, [], _∷_, _++_, append-nil, append-assoc}
 use Prim.Native.Nat.{ℕ, zero, suc, _+_, _-_, _^_, _≤_, _<_, zero-le}
 use native.Mathlib.Nat.{le-refl, le-trans, le-antisymm, le-of-eq, le-of-suc-le-suc, le-max-left, le-max-right, eq-or-lt-of-le, zero-add, add-zero, suc-add}
@@ -220,6 +220,18 @@ module _ (test : ℕ → Bool) where
   unfolding least
   least-least n a k = from-least n 0 a zero-le k
 
+  -- no other passes and has none below it that does
+  pub least-only : (n b : ℕ) → test n ≡ true → test b ≡ true → ((a : ℕ) → a < b → test a ≡ false) → b ≡ least test n
+  least-only n b h passes none = go (leb b s) (leb s b) refl refl
+    where
+      s : ℕ
+      s = least test n
+
+      go : (p q : Bool) → leb b s ≡ p → leb s b ≡ q → b ≡ s
+      go true true p q = le-antisymm (leb-true b s p) (leb-true s b q)
+      go true false p q = absurd (true≢false (sym passes ∙ least-least n b (leb-false s b q)))
+      go false r p q = absurd (true≢false (sym (least-passes n h) ∙ none s (leb-false b s p)))
+
 pub smallest-serves : (u : ℕ) (T : List State) → above (smallestBudget u T) T ≤ u
 unfolding smallestBudget
 smallest-serves u T =
@@ -231,15 +243,10 @@ none-smaller u T B l = leb-false (above B T) u (least-least (λ B. leb (above B 
 
 -- it is the only one of that kind
 pub smallest-is : (u : ℕ) (T : List State) (B : ℕ) → above B T ≤ u → ((A : ℕ) → A < B → u < above A T) → B ≡ smallestBudget u T
-smallest-is u T B serves none = go (leb B S) (leb S B) refl refl
-  where
-    S : ℕ
-    S = smallestBudget u T
-
-    go : (a b : Bool) → leb B S ≡ a → leb S B ≡ b → B ≡ S
-    go true true p q = le-antisymm (leb-true B S p) (leb-true S B q)
-    go true false p q = absurd (omega (arith, none-smaller u T B (leb-false S B q), serves))
-    go false b p q = absurd (omega (arith, none S (leb-false B S p), smallest-serves u T))
+unfolding smallestBudget
+smallest-is u T B serves none =
+    least-only (λ B. leb (above B T) u) (largest T) B (le-leb _ u (omega (arith, above-largest (largest T) T (omega arith))))
+    (le-leb (above B T) u serves) (λ A l. lt-leb (above A T) u (none A l))
 
 -- ---- what is accepted as a table
 

@@ -1,9 +1,10 @@
 -- What an accepted input is: none of section 5's reasons applies to it. Each fact here is one of those tests, turned round.
-use mathlib.Core.Path.{_≡_, refl, sym, _∙_}
+use mathlib.Core.Path.{_≡_, refl, sym, ap, _∙_}
 use mathlib.Core.Logic.{_≢_, _⊎_, inl, inr, ⊎-elim}
 use mathlib.Core.Bool.{Bool, true, false, cond, _||_, _&&_, not, true≢false}
-use mathlib.Core.List.{List, [], _∷_}
-use Prim.Native.Nat.{ℕ, _≤_, _<_}
+use mathlib.Core.List.{List, [], _∷_, map}
+use Prim.Native.Nat.{ℕ, zero, suc, _≤_, _<_}
+use native.Mathlib.Nat.{eq-or-lt-of-le, le-of-suc-le-suc, not-suc-le-zero}
 use native.Mathlib.Omega.{arith}
 use lib.Dec.{eqb, ltb}
 use lib.ListN.{length}
@@ -11,7 +12,7 @@ use borrow.Author.Tests.{ltb-true, ltb-false, eqb-true, not-false}
 use Rattle.basics.specs.Sums.{sumOver}
 use Rattle.basics.proofs.Bools.{and-left, and-right, or-cases, not-left, not-right}
 use Rattle.rules.specs.declared.Refusal.{Refusal}
-use Rattle.rules.specs.declared.Refusal.the-variants.{Text, Ways, Limit, Tracked, Accesses, Graph, Room, Row, SpreadRoom}
+use Rattle.rules.specs.declared.Refusal.the-variants.{Text, Ways, Limit, Tracked, Accesses, Graph, Room, Row, SpreadRoom, NoCore}
 use Rattle.rules.specs.declared.Verdict.{Verdict}
 use Rattle.rules.specs.declared.Verdict.the-variants.{Accepted, Refused}
 use Rattle.rules.specs.Answers.{numberOf, Reason, first, verdictSays, outcomeSays}
@@ -19,7 +20,7 @@ use Rattle.rules.specs.Contents.{among, once}
 use Rattle.rules.specs.Ordered.{before, byNumber, rises}
 use Rattle.rules.specs.Input.{Input, nodes, Edge, edgesOf, predecessors}
 use Rattle.rules.specs.Graph.{finished}
-use Rattle.rules.specs.Refusals.{outside, forward, inPairs, edgeOrder, hasEdgeIn, hasEdgeOut, edgesKept, reasons, verdict, answered, outcome}
+use Rattle.rules.specs.Refusals.{outside, forward, inPairs, edgeOrder, eachBelow, hasEdgeIn, hasEdgeOut, edgesKept, reasons, verdict, answered, outcome}
 use Rattle.rules.specs.Shape.{Every}
 use Rattle.rules.proofs.Ordered.{InOrder, in-order-rises, rises-in-order, number-before, two-before, two-onward}
 
@@ -35,8 +36,9 @@ numbered Graph e = omega arith
 numbered Room e = omega arith
 numbered Row e = omega arith
 numbered SpreadRoom e = omega arith
+numbered NoCore e = omega arith
 
-none-applies : (rs : List Reason) → verdictSays (first rs) ≡ 0 → Every (λ r. r .applies ≡ false) rs
+pub none-applies : (rs : List Reason) → verdictSays (first rs) ≡ 0 → Every (λ r. r .applies ≡ false) rs
 none-applies [] h = tt
 none-applies (r ∷ rs) h = go (r .applies) refl h (none-applies rs)
   where
@@ -125,6 +127,11 @@ says-aside i h = go (verdict i) h
     go Accepted h = refl
     go (Refused r) h = absurd (numbered r h)
 
+-- an input is accepted as well where its verdict says so
+pub checked : (i : Input) → Accepted ≡ verdict i → Checked i
+unfolding outcome
+checked i v = accepted i (rw (← v) refl)
+
 -- ---- edges
 
 forward-pred : (n : ℕ) (es : List Edge) → forward n es ≡ true → (i j : ℕ) → among (predecessors es j) i ≡ true → (i < j) × (j < n)
@@ -154,12 +161,17 @@ forward-pred n (x ∷ es) h i j e =
         pick (inl s) = let from : x .from ≡ i = eqb-true (x .from) i s in omega (arith, up, in-range, to)
         pick (inr s) = rest s
 
--- they lead forward, and rise
-edges-are : (n : ℕ) (ns : List ℕ) → edgesKept n ns ≡ true → (forward n (edgesOf ns) ≡ true) × (rises edgeOrder (edgesOf ns) ≡ true)
+-- they lead forward, and rise, and enter every node but 0
+edges-are : (n : ℕ) (ns : List ℕ) → edgesKept n ns ≡ true
+    → (forward n (edgesOf ns) ≡ true) × (rises edgeOrder (edgesOf ns) ≡ true) × (hasEdgeIn n (edgesOf ns) ≡ true)
 unfolding edgesKept
 edges-are n ns h =
-    let both = and-left (inPairs ns && forward n es && rises edgeOrder es) (hasEdgeIn n es) (and-left _ (hasEdgeOut n es) h) in
-    (and-right (inPairs ns) (forward n es) (and-left (inPairs ns && forward n es) (rises edgeOrder es) both), and-right (inPairs ns && forward n es) (rises edgeOrder es) both)
+    let all = and-left (inPairs ns && forward n es && rises edgeOrder es && hasEdgeIn n es) (hasEdgeOut n es) h in
+    let both = and-left (inPairs ns && forward n es && rises edgeOrder es) (hasEdgeIn n es) all in (
+      and-right (inPairs ns) (forward n es) (and-left (inPairs ns && forward n es) (rises edgeOrder es) both),
+      and-right (inPairs ns && forward n es) (rises edgeOrder es) both,
+      and-right (inPairs ns && forward n es && rises edgeOrder es) (hasEdgeIn n es) all,
+    )
   where
     es : List Edge
     es = edgesOf ns
@@ -168,6 +180,29 @@ edges-are n ns h =
 pub predecessor-lower : (i : Input) → Checked i → (a j : ℕ) → among (predecessors (edgesOf (i .edges)) j) a ≡ true → (a < j) × (j < nodes i)
 predecessor-lower i ok a j e =
     forward-pred (nodes i) (edgesOf (i .edges)) (edges-are (nodes i) (i .edges) (ok .edges-kept) .0) a j e
+
+each-below : (test : ℕ → Bool) (n : ℕ) → eachBelow n test ≡ true → (j : ℕ) → j < n → test j ≡ true
+each-below test zero h j l = absurd (not-suc-le-zero l)
+each-below test (suc n) h j l =
+    ⊎-elim (λ e. rw e (and-left (test n) (eachBelow n test) h)) (each-below test n (and-right (test n) (eachBelow n test) h) j)
+    (eq-or-lt-of-le (le-of-suc-le-suc l))
+
+-- a node with an edge in has a predecessor
+entered-from : (es : List Edge) (j : ℕ) → among (map (λ e. e .to) es) j ≡ true → 0 < length (predecessors es j)
+unfolding predecessors
+entered-from [] j h = absurd (true≢false (sym h))
+entered-from (e ∷ es) j h = go (eqb (e .to) j) h (entered-from es j)
+  where
+    go : (b : Bool) → (b || among (map (λ e. e .to) es) j) ≡ true → (among (map (λ e. e .to) es) j ≡ true → 0 < length (predecessors es j))
+        → 0 < length (cond b (e .from ∷ predecessors es j) (predecessors es j))
+    go true h rest = omega arith
+    go false h rest = rest h
+
+-- only node 0 has none
+pub no-predecessor : (i : Input) → Checked i → (j : ℕ) → j < nodes i → predecessors (edgesOf (i .edges)) j ≡ [] → j ≡ 0
+no-predecessor i ok j l none =
+    ⊎-elim (eqb-true j 0) (λ h. absurd (omega (arith, ap length none, entered-from (edgesOf (i .edges)) j h)))
+    (or-cases (eqb j 0) _ (each-below _ (nodes i) (edges-are (nodes i) (i .edges) (ok .edges-kept) .2) j l))
 
 -- predecessors are listed rising, the lowest first
 pub predecessors-rise : (i : Input) → Checked i → (j : ℕ) → rises byNumber (predecessors (edgesOf (i .edges)) j) ≡ true

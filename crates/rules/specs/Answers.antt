@@ -3,7 +3,7 @@ use mathlib.Core.Bool.{Bool, cond}
 use mathlib.Core.List.{List, [], _∷_}
 use Prim.Native.Nat.{ℕ}
 use Rattle.rules.specs.declared.Refusal.{Refusal}
-use Rattle.rules.specs.declared.Refusal.the-variants.{Text, Ways, Limit, Tracked, Accesses, Graph, Room, Row, SpreadRoom}
+use Rattle.rules.specs.declared.Refusal.the-variants.{Text, Ways, Limit, Tracked, Accesses, Graph, Room, Row, SpreadRoom, NoCore}
 use Rattle.rules.specs.declared.Verdict.{Verdict}
 use Rattle.rules.specs.declared.Verdict.the-variants.{Accepted, Refused}
 use Rattle.rules.specs.declared.Outcome.{Outcome}
@@ -12,8 +12,12 @@ use Rattle.rules.specs.declared.Amount.{Amount}
 use Rattle.rules.specs.declared.Amount.the-variants.{Units as AmountOf, Refused as RefusedAmount}
 use Rattle.rules.specs.declared.Count.{Count}
 use Rattle.rules.specs.declared.Count.the-variants.{Misses, Refused as RefusedCount}
+use Rattle.rules.specs.declared.Time.{Time}
+use Rattle.rules.specs.declared.Time.the-variants.{Cycles, Refused as RefusedTime}
+use Rattle.rules.specs.declared.Length.{Length}
+use Rattle.rules.specs.declared.Length.the-variants.{Accesses as AccessesOf, Refused as RefusedLength}
 
--- section 5's number of a refusal
+-- the number of a refusal: section 5's, and document 02's
 abbrev pub numberOf : Refusal → ℕ
 numberOf Text = 9
 numberOf Ways = 1
@@ -24,6 +28,7 @@ numberOf Graph = 5
 numberOf Room = 6
 numberOf Row = 7
 numberOf SpreadRoom = 8
+numberOf NoCore = 16
 
 -- ---- the first that applies
 
@@ -70,3 +75,11 @@ amountSays (RefusedAmount r) = record { number = numberOf r; value = 0 }
 abbrev pub countSays : Count → AnswerSays
 countSays (Misses m) = record { number = 0; value = m }
 countSays (RefusedCount r) = record { number = numberOf r; value = 0 }
+
+abbrev pub timeSays : Time → AnswerSays
+timeSays (Cycles n) = record { number = 0; value = n }
+timeSays (RefusedTime r) = record { number = numberOf r; value = 0 }
+
+abbrev pub lengthSays : Length → AnswerSays
+lengthSays (AccessesOf n) = record { number = 0; value = n }
+lengthSays (RefusedLength r) = record { number = numberOf r; value = 0 }

@@ -17,3 +17,6 @@ pub mod Graph
 pub mod Questions
 -- Section 5: when the work says no
 pub mod Refusals
+-- Request 9/13: curves in cycles
+pub mod Longest
+pub mod Cycles

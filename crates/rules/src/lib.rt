@@ -3,6 +3,7 @@ ghost use mathlib.Core.Path.{_≡_};
 ghost use Rattle.rules.specs.Units.{splitOf, addOf};
 ghost use Rattle.rules.specs.Answers.{numberOf};
 ghost use Rattle.rules.specs.Ordered.{byNumber, thenBy, isBefore};
+ghost use Rattle.rules.specs.Cycles.{coreAt};
 
 // A probability: whole units of 2^-48.
 pub struct Units(pub u64);
@@ -88,7 +89,7 @@ pub struct Pair {
     pub partner: usize,
 }
 
-// Why the work says no: a name for each line of section 5's table.
+// Why the work says no: a name for each line of section 5's table, and of document 02's refusals.
 pub enum Refusal {
     Text,
     Ways,
@@ -99,10 +100,11 @@ pub enum Refusal {
     Room,
     Row,
     SpreadRoom,
+    NoCore,
 }
 
 impl Refusal {
-    // Its number in section 5's table.
+    // Its number there.
     pub fn number(self) -> u64
         ensures { λ r. ⌜ r ≡ numberOf self ⌝ }
     {
@@ -116,6 +118,7 @@ impl Refusal {
             Refusal::Room => 6,
             Refusal::Row => 7,
             Refusal::SpreadRoom => 8,
+            Refusal::NoCore => 16,
         }
     }
 }
@@ -142,4 +145,48 @@ pub enum Amount {
 pub enum Count {
     Misses(u64),
     Refused(Refusal),
+}
+
+// What a question about cycles answers: the smallest budget.
+pub enum Time {
+    Cycles(u64),
+    Refused(Refusal),
+}
+
+// What the longest path answers: its accesses.
+pub enum Length {
+    Accesses(u64),
+    Refused(Refusal),
+}
+
+// A core: the cycles of a hit, and of a miss.
+pub struct Core {
+    pub hit: u64,
+    pub miss: u64,
+}
+
+// The cores in service: document 02, request 9/13.
+pub const CORES: [Core; 12] = [
+    Core { hit: 1, miss: 8 },
+    Core { hit: 1, miss: 10 },
+    Core { hit: 1, miss: 12 },
+    Core { hit: 1, miss: 20 },
+    Core { hit: 2, miss: 10 },
+    Core { hit: 2, miss: 16 },
+    Core { hit: 2, miss: 24 },
+    Core { hit: 2, miss: 40 },
+    Core { hit: 3, miss: 15 },
+    Core { hit: 3, miss: 30 },
+    Core { hit: 3, miss: 60 },
+    Core { hit: 4, miss: 100 },
+];
+
+// The core of a number; past the last one there is none, and it takes no cycles.
+pub fn core_at(number: usize) -> Core
+    ensures { λ r. ⌜ r ≡ coreAt number ⌝ }
+{
+    if number < 12 {
+        return CORES[number];
+    }
+    Core { hit: 0, miss: 0 }
 }

@@ -12,7 +12,11 @@ pub mod Decimals
 pub mod ReadBack
 -- Text put into a room
 pub mod Putting
+-- The lines of the cores
+pub mod CoreLines
 -- The lines of a table
 pub mod Lines
--- The curve of a list of numbers
-pub mod Curves
+-- What is printed for a list of numbers or a text
+pub mod Printed
+-- What a call leaves in its rooms
+pub mod Rooms

@@ -1,15 +1,16 @@
--- The lines of a table, from the units at each miss count: what is left of WHOLE behind a count is what stands above it. The spread of a table is
--- answered, and stands at the front of its room.
+-- The lines of a table, in misses or in cycles, from the units at each miss count: what is left of WHOLE behind a count is what stands above it. The
+-- spread of a table is answered, and stands at the front of its room.
 use mathlib.Core.Path.{_≡_, refl, sym, ap, ap₂, _∙_}
 use mathlib.Core.Bool.{true}
 use mathlib.Core.List.{List, [], _∷_, _++_, append-nil, append-assoc}
-use Prim.Native.Nat.{ℕ, zero, suc, _+_, _-_, _≤_, _<_}
-use native.Mathlib.Nat.{le-of-eq, zero-add}
+use Prim.Native.Nat.{ℕ, zero, suc, _+_, _-_, _*_, _≤_, _<_}
+use native.Mathlib.Nat.{le-of-eq, le-trans, zero-add}
 use native.Mathlib.Omega.{arith}
 use lib.ListN.{length, take, drop, drop-of-length-le}
 use lib.Seq.{drop-cons}
 use Rattle.basics.specs.Sums.{sumOver}
 use Rattle.basics.proofs.Sums.{sum-append}
+use Rattle.rules.specs.declared.Core.{Core}
 use Rattle.rules.specs.declared.State.{State}
 use Rattle.rules.specs.declared.Refusal.{Refusal}
 use Rattle.rules.specs.declared.Count.{Count}
@@ -18,11 +19,20 @@ use Rattle.rules.specs.Answers.{countSays}
 use Rattle.rules.specs.Units.{whole}
 use Rattle.rules.specs.Table.{total}
 use Rattle.rules.specs.Questions.{isTable, unitsAt, largest, above, countsBelow, spread, SpreadAnswer, spreadAnswer}
+use Rattle.rules.specs.Cycles.{cores, coreAt}
 use Rattle.rules.proofs.Refusals.{numbered}
 use Rattle.rules.proofs.Questions.{table-largest, length-counts, counts-at, counts-take, counts-above, table-total, spread-answered}
-use Rattle.text.specs.Writing.{countLine, linesBelow, curveLines}
-use Rattle.text.specs.Put.{countLines}
+use Rattle.rules.proofs.Cycles.{miss-above-hit, cycles-are, above-cycles-at}
+use Rattle.text.specs.Writing.{countLine, linesBelow, curveLine, curveLines}
+use Rattle.text.specs.Cycles.{coreLine, cycleLine, coreLines}
+use Rattle.text.specs.Put.{countLines, coreCounts}
 use Rattle.text.specs.Rooms.{Counted}
+
+-- the same lines for each number below n
+lines-alike : (f g : ℕ → List ℕ) (n : ℕ) → ((k : ℕ) → k < n → f k ≡ g k) → linesBelow f n ≡ linesBelow g n
+unfolding linesBelow
+lines-alike f g zero h = refl
+lines-alike f g (suc n) h = ap₂ _++_ (lines-alike f g n (λ k l. h k (omega arith))) (h n (omega arith))
 
 module _ (T : List State) (full : total T ≡ whole) where
   -- the units with k misses or more
@@ -44,26 +54,45 @@ module _ (T : List State) (full : total T ≡ whole) where
   counts-from n k l =
       drop-cons (countsBelow n T) k 0 (rw (length-counts n T) l) ∙ ap (λ (u : ℕ). u ∷ drop (suc k) (countsBelow n T)) (counts-at n T k l)
 
-  -- the lines below k, and those of the counts from k on
-  lines-from : (n k : ℕ) → linesBelow k T ++ countLines k (left k) (drop k (countsBelow (n + k) T)) ≡ linesBelow (n + k) T
-  unfolding countLines linesBelow
-  lines-from zero k =
-      let none : drop k (countsBelow k T) ≡ [] = drop-of-length-le (countsBelow k T) (le-of-eq (length-counts k T)) in
-      rw (zero-add k, none) (append-nil (linesBelow k T))
-  lines-from (suc n) k =
-      let more : suc n + k ≡ n + suc k = omega arith in
-      rw (more)
-      (ap (λ (us : List ℕ). linesBelow k T ++ countLines k (left k) us) (counts-from (n + suc k) k (omega arith))
-      ∙ ap (λ (v : ℕ). linesBelow k T ++ (countLine k (unitsAt k T) v ++ countLines (suc k) v (drop (suc k) (countsBelow (n + suc k) T)))) (left-less k)
-      ∙ sym (append-assoc (linesBelow k T) (countLine k (unitsAt k T) (above k T)) (countLines (suc k) (above k T) (drop (suc k) (countsBelow (n + suc k) T))))
-      ∙ ap (λ (v : ℕ). linesBelow (suc k) T ++ countLines (suc k) v (drop (suc k) (countsBelow (n + suc k) T))) (sym (left-next k))
-      ∙ lines-from n (suc k))
+  -- lines that say, for each miss count that is there, what it stands for, the units there and the units above
+  module _ (line : ℕ → List ℕ) (first step : ℕ) (is : (k : ℕ) → k ≤ largest T → line k ≡ countLine (first + k * step) (unitsAt k T) (above k T)) where
+    -- those below k, and those of the counts from k on
+    lines-from : (n k : ℕ) → n + k ≤ suc (largest T)
+        → linesBelow line k ++ countLines first step k (left k) (drop k (countsBelow (n + k) T)) ≡ linesBelow line (n + k)
+    unfolding countLines linesBelow
+    lines-from zero k l =
+        let none : drop k (countsBelow k T) ≡ [] = drop-of-length-le (countsBelow k T) (le-of-eq (length-counts k T)) in
+        rw (zero-add k, none) (append-nil (linesBelow line k))
+    lines-from (suc n) k l =
+        let more : suc n + k ≡ n + suc k = omega arith in
+        let rest = drop (suc k) (countsBelow (n + suc k) T) in
+        rw (more)
+        (ap (λ (us : List ℕ). linesBelow line k ++ countLines first step k (left k) us) (counts-from (n + suc k) k (omega arith))
+        ∙ ap (λ (v : ℕ). linesBelow line k ++ (countLine (first + k * step) (unitsAt k T) v ++ countLines first step (suc k) v rest)) (left-less k)
+        ∙ ap (λ (t : List ℕ). linesBelow line k ++ (t ++ countLines first step (suc k) (above k T) rest)) (sym (is k (omega arith)))
+        ∙ sym (append-assoc (linesBelow line k) (line k) (countLines first step (suc k) (above k T) rest))
+        ∙ ap (λ (v : ℕ). linesBelow line (suc k) ++ countLines first step (suc k) v rest) (sym (left-next k))
+        ∙ lines-from n (suc k) (omega arith))
 
-  lines-spread : countLines 0 whole (spread T) ≡ curveLines T
-  unfolding spread linesBelow
-  lines-spread =
-      let all : suc (largest T) + 0 ≡ suc (largest T) = omega arith in
-      rw all at (lines-from (suc (largest T)) 0)
+    lines-spread : countLines first step 0 whole (spread T) ≡ linesBelow line (suc (largest T))
+    unfolding spread linesBelow
+    lines-spread =
+        let all : suc (largest T) + 0 ≡ suc (largest T) = omega arith in
+        rw all at (lines-from (suc (largest T)) 0 (omega arith))
+
+  curve-spread : countLines 0 1 0 whole (spread T) ≡ curveLines T
+  curve-spread =
+      lines-spread (curveLine T) 0 1 (λ k l. ap (λ (m : ℕ). countLine m (unitsAt k T) (above k T)) (itself k))
+    where
+      itself : (k : ℕ) → k ≡ 0 + k * 1
+      itself k = omega arith
+
+  -- on a core a miss count stands for its cycles
+  cycles-spread : (c : Core) → c .hit < c .miss → (L : ℕ) → largest T ≤ L
+      → countLines (L * c .hit) (c .miss - c .hit) 0 whole (spread T) ≡ linesBelow (cycleLine c L T) (suc (largest T))
+  cycles-spread c d L inside =
+      lines-spread (cycleLine c L T) (L * c .hit) (c .miss - c .hit)
+      (λ k l. ap₂ (λ (m v : ℕ). countLine m (unitsAt k T) v) (cycles-are c d L k (le-trans l inside)) (above-cycles-at c d L k T (le-trans l inside) inside))
 
   -- the spread is all of WHOLE
   spread-whole : sumOver (λ n. n) (spread T) ≤ whole
@@ -100,8 +129,16 @@ unfolding spread
 counted-long T n ns found = found .count ∙ sym (ap length (found .spread) ∙ length-counts (suc (largest T)) T)
 
 -- and its lines
-pub counted-lines : (T : List State) (n : ℕ) (ns : List ℕ) → isTable T ≡ true → Counted T n ns → countLines 0 whole (take n ns) ≡ curveLines T
-counted-lines T n ns good found = ap (countLines 0 whole) (found .spread) ∙ lines-spread T (table-total T good)
+pub counted-lines : (T : List State) (n : ℕ) (ns : List ℕ) → isTable T ≡ true → Counted T n ns → countLines 0 1 0 whole (take n ns) ≡ curveLines T
+counted-lines T n ns good found = ap (countLines 0 1 0 whole) (found .spread) ∙ curve-spread T (table-total T good)
+
+pub counted-cores : (T : List State) (n : ℕ) (ns : List ℕ) → isTable T ≡ true → Counted T n ns → (L : ℕ) → largest T ≤ L
+    → linesBelow (coreCounts L (take n ns)) 12 ≡ linesBelow (coreLines L T) (length cores)
+unfolding coreCounts coreLines cores
+counted-cores T n ns good found L inside =
+    lines-alike (coreCounts L (take n ns)) (coreLines L T) 12
+    (λ k l. ap (λ (us : List ℕ). coreLine k (coreAt k) ++ countLines (L * coreAt k .hit) (coreAt k .miss - coreAt k .hit) 0 whole us) (found .spread)
+    ∙ ap (λ (t : List ℕ). coreLine k (coreAt k) ++ t) (cycles-spread T (table-total T good) (coreAt k) (miss-above-hit k l) L inside))
 
 pub counted-whole : (T : List State) (n : ℕ) (ns : List ℕ) → isTable T ≡ true → Counted T n ns → sumOver (λ n. n) (take n ns) ≤ whole
 counted-whole T n ns good found = rw (found .spread) (spread-whole T (table-total T good))

@@ -197,7 +197,7 @@ module _ (ns : List ℕ) where
 -- ---- with the ends by name
 
 -- what the numbers mean, with the parts ending at a, b, c and d
-abbrev between : List ℕ → ℕ → ℕ → ℕ → ℕ → Input
+abbrev pub between : List ℕ → ℕ → ℕ → ℕ → ℕ → Input
 between ns a b c d =
     inputOf (getD ns 0 0) (getD ns 1 0) (take (a - 3) (drop 3 ns)) (take (b - (a + 1)) (drop (a + 1) ns)) (take (c - (b + 1)) (drop (b + 1) ns)) (take (d - (c + 1)) (drop (c + 1) ns))
 

@@ -18,7 +18,7 @@ use Rattle.rules.specs.Questions.{isTable, unitsAt, largest, above, countsBelow
 use Rattle.rules.proofs.Lists.{every-append}
 use Rattle.rules.proofs.Questions.{units-most, above-most, table-total, table-largest}
 use Rattle.text.specs.Reading.{isGap, isDigit, allDigits, valueFrom, isNumber, ended, wordsFrom, allNumbers, wellFormed, numbersIn}
-use Rattle.text.specs.Writing.{decimal, countLine, linesBelow, curveLines}
+use Rattle.text.specs.Writing.{decimal, countLine, linesBelow, curveLine, curveLines}
 use Rattle.text.specs.Numbers.{listed, triples, seconds}
 use Rattle.text.proofs.Decimals.{decimal-digits, decimal-value, decimal-some, decimal-number}
 
@@ -79,7 +79,7 @@ line-words : (m u v : ℕ) (t : List ℕ) → wordsFrom [] (countLine m u v ++ t
 unfolding countLine
 line-words m u v t = simp (append-assoc, word-decimal)
 
-lines-words : (m : ℕ) (T : List State) (t : List ℕ) → wordsFrom [] (linesBelow m T ++ t) ≡ map decimal (triples m T) ++ wordsFrom [] t
+lines-words : (m : ℕ) (T : List State) (t : List ℕ) → wordsFrom [] (linesBelow (curveLine T) m ++ t) ≡ map decimal (triples m T) ++ wordsFrom [] t
 unfolding linesBelow triples
 lines-words zero T t = refl
 lines-words (suc m) T t = simp (append-assoc, map-append, lines-words m T, line-words)

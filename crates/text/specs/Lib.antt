@@ -14,7 +14,13 @@ pub mod Writing
 pub mod Put
 -- numbers written to be read
 pub mod Numbers
+-- What is printed, or refused
+pub mod Printed
 -- The curve's text
 pub mod Curve
+-- The curves in cycles
+pub mod Cycles
 -- what a call leaves
 pub mod Rooms
+-- which text is wanted
+pub mod Wanted

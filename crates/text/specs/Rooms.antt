@@ -16,6 +16,7 @@ use Rattle.words.specs.Tables.{tableOf}
 use Rattle.text.specs.declared.Written.{Written}
 use Rattle.text.specs.declared.Written.the-variants.{Bytes, NoRoom}
 use Rattle.text.specs.Curve.{curveOfNumbers, curveOfText}
+use Rattle.text.specs.Cycles.{cyclesOfNumbers, cyclesOfText}
 
 -- the graph call is made: its answer, and if there is a finished table it stands at the front of the result room
 pub record Called (i : Input) (r : Outcome) (result : List ℕ) : Type 0 where
@@ -34,12 +35,21 @@ pub record Rooms : Type 0 where
   pub counts : List ℕ
   pub output : List ℕ
 
--- how many words and bytes they have to have
-abbrev pub longEnough : ℕ → ℕ → ℕ → ℕ → Bool
-longEnough result work counts output = leb 192 result && leb 15552 work && leb 4097 counts && leb 262144 output
+-- how many words they have to have, and how many bytes, of which the longest text needs `bytes`
+abbrev pub longEnough : ℕ → ℕ → ℕ → ℕ → ℕ → Bool
+longEnough bytes result work counts output = leb 192 result && leb 15552 work && leb 4097 counts && leb bytes output
 
-abbrev pub enough : Rooms → Bool
-enough r = longEnough (length (r .result)) (length (r .work)) (length (r .counts)) (length (r .output))
+abbrev pub enough : ℕ → Rooms → Bool
+enough bytes r = longEnough bytes (length (r .result)) (length (r .work)) (length (r .counts)) (length (r .output))
+
+-- the curve has at most 1 + 4,097 lines of at most 63 bytes; the curves in cycles have 12 times as many, and one more
+abbrev pub curveBytes : ℕ
+curveBytes = 262144
+
+abbrev pub cyclesBytes : ℕ
+cyclesBytes = 3145728
+
+-- ---- a list of numbers
 
 pub record After : Type 0 where
   pub answer : Written
@@ -59,18 +69,28 @@ leaves true text r =
     }
 leaves false text r = record { answer = NoRoom; rooms = r }
 
--- after the curve of a list of numbers
+-- after the curve, and after the curves in cycles
 unfoldable pub afterNumbers : List ℕ → Rooms → After
-afterNumbers ns r = leaves (enough r) (curveOfNumbers ns) r
+afterNumbers ns r = leaves (enough curveBytes r) (curveOfNumbers ns) r
 
--- after the curve of a text, which needs room for its numbers too
+unfoldable pub afterCyclesOfNumbers : List ℕ → Rooms → After
+afterCyclesOfNumbers ns r = leaves (enough cyclesBytes r) (cyclesOfNumbers ns) r
+
+-- ---- a text, which needs room for its numbers too
+
 pub record AfterText : Type 0 where
   pub answer : Written
   pub numbers : List ℕ
   pub rooms : Rooms
 
+abbrev pub leavesText : Bool → List ℕ → List ℕ → Rooms → AfterText
+leavesText ok text numbers r =
+    let all = leb 16384 (length numbers) && ok in
+    let a = leaves all text r in
+    record { answer = a .answer; numbers = cond all (replicate (length numbers) 0) numbers; rooms = a .rooms }
+
 unfoldable pub afterText : List ℕ → List ℕ → Rooms → AfterText
-afterText text numbers r =
-    let ok = leb 16384 (length numbers) && enough r in
-    let a = leaves ok (curveOfText text) r in
-    record { answer = a .answer; numbers = cond ok (replicate (length numbers) 0) numbers; rooms = a .rooms }
+afterText text numbers r = leavesText (enough curveBytes r) (curveOfText text) numbers r
+
+unfoldable pub afterCyclesOfText : List ℕ → List ℕ → Rooms → AfterText
+afterCyclesOfText text numbers r = leavesText (enough cyclesBytes r) (cyclesOfText text) numbers r

@@ -30,18 +30,26 @@ unfoldable pub refusedLine : ℕ → List ℕ
 refusedLine r = refusedWord ++ decimal r ++ (10 ∷ [])
 
 -- the number of states and the set-aside count
-unfoldable pub headLine : ℕ → ℕ → List ℕ
-headLine n aside = statesWord ++ decimal n ++ asideWord ++ decimal aside ++ (10 ∷ [])
+unfoldable pub headWords : ℕ → ℕ → List ℕ
+headWords n aside = statesWord ++ decimal n ++ asideWord ++ decimal aside
 
--- misses, units there, units above
+-- they alone on a line
+abbrev pub headLine : ℕ → ℕ → List ℕ
+headLine n aside = headWords n aside ++ (10 ∷ [])
+
+-- misses or what they stand for, units there, units above
 unfoldable pub countLine : ℕ → ℕ → ℕ → List ℕ
 countLine m u v = decimal m ++ (32 ∷ []) ++ decimal u ++ (32 ∷ []) ++ decimal v ++ (10 ∷ [])
 
--- a line for each miss count below m
-unfoldable pub linesBelow : ℕ → List State → List ℕ
-linesBelow zero T = []
-linesBelow (suc m) T = linesBelow m T ++ countLine m (unitsAt m T) (above m T)
+-- the lines of each number below n, in order
+unfoldable pub linesBelow : (ℕ → List ℕ) → ℕ → List ℕ
+linesBelow lines zero = []
+linesBelow lines (suc n) = linesBelow lines n ++ lines n
+
+-- a miss count of the table T
+abbrev pub curveLine : List State → ℕ → List ℕ
+curveLine T m = countLine m (unitsAt m T) (above m T)
 
 -- a line for each miss count from 0 to the largest
 abbrev pub curveLines : List State → List ℕ
-curveLines T = linesBelow (suc (largest T)) T
+curveLines T = linesBelow (curveLine T) (suc (largest T))

@@ -1,12 +1,15 @@
-// The curve program's text: from the bytes that it reads to the bytes that it writes, in rooms that the caller lends.
+// The programs' text: from the bytes that they read to the bytes that they write, in rooms that the caller lends.
 use crate::reading::clear_numbers;
+use crate::working::Wanted;
 use crate::working::has_room;
 use crate::working::put_numbers;
 use crate::working::put_text;
 use words::clear;
 ghost use mathlib.Core.Path.{_≡_};
-ghost use Rattle.text.specs.Rooms.{afterNumbers, afterText};
+ghost use Rattle.text.specs.Rooms.{afterNumbers, afterText, afterCyclesOfNumbers, afterCyclesOfText};
+ghost use Rattle.text.specs.Wanted.{wantedAfter, wantedAfterText};
 
+mod cores;
 mod parts;
 mod reading;
 mod working;
@@ -29,17 +32,23 @@ pub fn curve_of_numbers(
 ) -> Written
     ensures { λ r. ⌜ record { answer = r; rooms = record { result = now (result .exit); work = now (work .exit); counts = now (counts .exit); output = now (output .exit) } } ≡ afterNumbers (now (numbers .entry)) (record { result = now (result .entry); work = now (work .entry); counts = now (counts .entry); output = now (output .entry) }) ⌝ }
 {
-    if !has_room(result.len(), work.len(), counts.len(), output.len()) {
-        return Written::NoRoom;
-    }
-    let end = put_numbers(numbers, result, work, counts, output);
-    clear(result);
-    clear(work);
-    clear(counts);
-    Written::Bytes(end)
+    write_numbers(Wanted::Misses, numbers, result, work, counts, output)
 }
 
-// The curve's text for a text. Long enough are the rooms as above, and 16,384 numbers.
+// The text of the curves in cycles for numbers in the curve's order. Long enough are rooms as for the curve, and an output of 3,145,728 bytes.
+pub fn cycles_of_numbers(
+    numbers: &[u32],
+    result: &mut [u64],
+    work: &mut [u64],
+    counts: &mut [u64],
+    output: &mut [u8],
+) -> Written
+    ensures { λ r. ⌜ record { answer = r; rooms = record { result = now (result .exit); work = now (work .exit); counts = now (counts .exit); output = now (output .exit) } } ≡ afterCyclesOfNumbers (now (numbers .entry)) (record { result = now (result .entry); work = now (work .entry); counts = now (counts .entry); output = now (output .entry) }) ⌝ }
+{
+    write_numbers(Wanted::Cycles, numbers, result, work, counts, output)
+}
+
+// The curve's text for a text. Long enough are rooms as for numbers, and 16,384 numbers.
 pub fn curve_of_text(
     text: &[u8],
     numbers: &mut [u32],
@@ -50,13 +59,63 @@ pub fn curve_of_text(
 ) -> Written
     ensures { λ r. ⌜ record { answer = r; numbers = now (numbers .exit); rooms = record { result = now (result .exit); work = now (work .exit); counts = now (counts .exit); output = now (output .exit) } } ≡ afterText (now (text .entry)) (now (numbers .entry)) (record { result = now (result .entry); work = now (work .entry); counts = now (counts .entry); output = now (output .entry) }) ⌝ }
 {
+    write_text(Wanted::Misses, text, numbers, result, work, counts, output)
+}
+
+// The text of the curves in cycles for a text. Long enough are rooms as for numbers, and 16,384 numbers.
+pub fn cycles_of_text(
+    text: &[u8],
+    numbers: &mut [u32],
+    result: &mut [u64],
+    work: &mut [u64],
+    counts: &mut [u64],
+    output: &mut [u8],
+) -> Written
+    ensures { λ r. ⌜ record { answer = r; numbers = now (numbers .exit); rooms = record { result = now (result .exit); work = now (work .exit); counts = now (counts .exit); output = now (output .exit) } } ≡ afterCyclesOfText (now (text .entry)) (now (numbers .entry)) (record { result = now (result .entry); work = now (work .entry); counts = now (counts .entry); output = now (output .entry) }) ⌝ }
+{
+    write_text(Wanted::Cycles, text, numbers, result, work, counts, output)
+}
+
+// The text that is wanted, for numbers in the curve's order.
+fn write_numbers(
+    wanted: Wanted,
+    numbers: &[u32],
+    result: &mut [u64],
+    work: &mut [u64],
+    counts: &mut [u64],
+    output: &mut [u8],
+) -> Written
+    ensures { λ r. ⌜ record { answer = r; rooms = record { result = now (result .exit); work = now (work .exit); counts = now (counts .exit); output = now (output .exit) } } ≡ wantedAfter wanted (now (numbers .entry)) (record { result = now (result .entry); work = now (work .entry); counts = now (counts .entry); output = now (output .entry) }) ⌝ }
+{
+    if !has_room(wanted, result.len(), work.len(), counts.len(), output.len()) {
+        return Written::NoRoom;
+    }
+    let end = put_numbers(wanted, numbers, result, work, counts, output);
+    clear(result);
+    clear(work);
+    clear(counts);
+    Written::Bytes(end)
+}
+
+// The text that is wanted, for a text.
+fn write_text(
+    wanted: Wanted,
+    text: &[u8],
+    numbers: &mut [u32],
+    result: &mut [u64],
+    work: &mut [u64],
+    counts: &mut [u64],
+    output: &mut [u8],
+) -> Written
+    ensures { λ r. ⌜ record { answer = r; numbers = now (numbers .exit); rooms = record { result = now (result .exit); work = now (work .exit); counts = now (counts .exit); output = now (output .exit) } } ≡ wantedAfterText wanted (now (text .entry)) (now (numbers .entry)) (record { result = now (result .entry); work = now (work .entry); counts = now (counts .entry); output = now (output .entry) }) ⌝ }
+{
     if numbers.len() < 16384 {
         return Written::NoRoom;
     }
-    if !has_room(result.len(), work.len(), counts.len(), output.len()) {
+    if !has_room(wanted, result.len(), work.len(), counts.len(), output.len()) {
         return Written::NoRoom;
     }
-    let end = put_text(text, numbers, result, work, counts, output);
+    let end = put_text(wanted, text, numbers, result, work, counts, output);
     clear_numbers(numbers);
     clear(result);
     clear(work);

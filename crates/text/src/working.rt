@@ -1,13 +1,17 @@
-// From the numbers to the curve: the graph call, the questions, and the lines that they give.
+// From the numbers to the text: the graph call, the questions, and the lines that they give.
+use crate::cores::put_cores;
 use crate::parts::end_of;
 use crate::reading::Read;
 use crate::reading::read_numbers;
 use crate::writing::put_head;
 use crate::writing::put_lines;
+use crate::writing::put_longest;
 use crate::writing::put_refused;
 use estimate::analyse;
+use longest::longest_path;
 use questions::spread_in;
 use rules::Count;
+use rules::Length;
 use rules::Outcome;
 use rules::Units;
 ghost use mathlib.Core.Path.{_≡_};
@@ -15,14 +19,26 @@ ghost use mathlib.Core.Bool.{true};
 ghost use mathlib.Core.List.{_++_};
 ghost use Prim.Native.Nat.{_≤_, _<_};
 ghost use lib.ListN.{length, take};
-ghost use Rattle.rules.specs.Questions.{isTable};
+ghost use Rattle.rules.specs.declared.Verdict.the-variants.{Accepted};
+ghost use Rattle.rules.specs.Questions.{isTable, largest};
+ghost use Rattle.rules.specs.Refusals.{verdict};
+ghost use Rattle.rules.specs.Cycles.{cores};
+ghost use Rattle.rules.specs.Longest.{longest};
 ghost use Rattle.words.specs.Tables.{tableOf};
 ghost use Rattle.text.specs.Parts.{inputFrom};
 ghost use Rattle.text.specs.Places.{Ends};
-ghost use Rattle.text.specs.Writing.{headLine, curveLines};
+ghost use Rattle.text.specs.Writing.{headLine, curveLines, linesBelow};
+ghost use Rattle.text.specs.Printed.{ofNumbers, ofText};
+ghost use Rattle.text.specs.Cycles.{longestLine, coreLines};
 ghost use Rattle.text.specs.Put.{Put};
-ghost use Rattle.text.specs.Curve.{curveOfNumbers, curveOfText};
 ghost use Rattle.text.specs.Rooms.{Called, Counted, longEnough};
+ghost use Rattle.text.specs.Wanted.{wantedText, wantedBytes};
+
+// Which text is wanted: the curve, or the curves in cycles.
+pub(crate) enum Wanted {
+    Misses,
+    Cycles,
+}
 
 // The graph call, for numbers that are complete: the tracked blocks end at `first`, the run lengths at `second`, the accesses at `third`.
 pub(crate) fn call(
@@ -46,6 +62,24 @@ pub(crate) fn call(
         result,
         work,
     )
+}
+
+// The accesses of the longest path, for the same numbers, where the graph call is accepted.
+pub(crate) fn longest_of(numbers: &[u32], first: usize, second: usize, third: usize) -> u64
+    requires { ⌜ Ends (now numbers) first second third × (3 ≤ first) × (first < second) × (second < third) × (third < length (now numbers)) × (verdict (inputFrom (now numbers)) ≡ Accepted) ⌝ }
+    ensures { λ r. ⌜ r ≡ longest (inputFrom (now (numbers .entry))) ⌝ }
+{
+    match longest_path(
+        numbers[0],
+        numbers[1],
+        &numbers[3..first],
+        &numbers[first + 1..second],
+        &numbers[second + 1..third],
+        &numbers[third + 1..],
+    ) {
+        Length::Accesses(n) => n,
+        Length::Refused(why) => 0,
+    }
 }
 
 // The units at each miss count of the table of `states` states in the result room, at the front of `counts`; how many they are.
@@ -72,19 +106,37 @@ pub(crate) fn put_curve(
 {
     let head = put_head(output, states as u64, aside.0);
     let n = count_all(result, states, counts);
-    put_lines(output, head, &counts[..n])
+    put_lines(output, head, &counts[..n], 0, 1)
 }
 
-// The curve of the numbers, or the line of a refusal.
+// The curves in cycles of the same table, where the longest path has `longest` accesses.
+pub(crate) fn put_cycles(
+    result: &[u64],
+    states: usize,
+    aside: Units,
+    longest: u64,
+    counts: &mut [u64],
+    output: &mut [u8],
+) -> usize
+    requires { ⌜ (isTable (take states (tableOf (now result))) ≡ true) × (largest (take states (tableOf (now result))) ≤ longest) × (longest ≤ 4096) × (4097 ≤ length (now counts)) × (3145728 ≤ length (now output)) ⌝ }
+    ensures { λ r. ⌜ Put (longestLine states (aside .0) longest ++ linesBelow (coreLines longest (take states (tableOf (now (result .entry))))) (length cores)) 0 r (now (output .entry)) (now (output .exit)) ⌝ }
+{
+    let head = put_longest(output, states as u64, aside.0, longest);
+    let n = count_all(result, states, counts);
+    put_cores(output, head, &counts[..n], longest)
+}
+
+// The text that is wanted of the numbers, or the line of a refusal.
 pub(crate) fn put_numbers(
+    wanted: Wanted,
     numbers: &[u32],
     result: &mut [u64],
     work: &mut [u64],
     counts: &mut [u64],
     output: &mut [u8],
 ) -> usize
-    requires { ⌜ (192 ≤ length (now result)) × (15552 ≤ length (now work)) × (4097 ≤ length (now counts)) × (262144 ≤ length (now output)) ⌝ }
-    ensures { λ r. ⌜ Put (curveOfNumbers (now (numbers .entry))) 0 r (now (output .entry)) (now (output .exit)) ⌝ }
+    requires { ⌜ (192 ≤ length (now result)) × (15552 ≤ length (now work)) × (4097 ≤ length (now counts)) × (wantedBytes wanted ≤ length (now output)) ⌝ }
+    ensures { λ r. ⌜ Put (ofNumbers (wantedText wanted) (now (numbers .entry))) 0 r (now (output .entry)) (now (output .exit)) ⌝ }
 {
     let first = end_of(numbers, 2, 1);
     let second = end_of(numbers, first, 1);
@@ -94,12 +146,19 @@ pub(crate) fn put_numbers(
     }
     match call(numbers, first, second, third, result, work) {
         Outcome::Refused(why) => put_refused(output, why.number()),
-        Outcome::Finished(states, aside) => put_curve(result, states, aside, counts, output),
+        Outcome::Finished(states, aside) => match wanted {
+            Wanted::Misses => put_curve(result, states, aside, counts, output),
+            Wanted::Cycles => {
+                let longest = longest_of(numbers, first, second, third);
+                put_cycles(result, states, aside, longest, counts, output)
+            }
+        },
     }
 }
 
-// The curve of the text, or the line of a refusal.
+// The text that is wanted of the text, or the line of a refusal.
 pub(crate) fn put_text(
+    wanted: Wanted,
     text: &[u8],
     numbers: &mut [u32],
     result: &mut [u64],
@@ -107,18 +166,34 @@ pub(crate) fn put_text(
     counts: &mut [u64],
     output: &mut [u8],
 ) -> usize
-    requires { ⌜ (16384 ≤ length (now numbers)) × (192 ≤ length (now result)) × (15552 ≤ length (now work)) × (4097 ≤ length (now counts)) × (262144 ≤ length (now output)) ⌝ }
-    ensures { λ r. ⌜ Put (curveOfText (now (text .entry))) 0 r (now (output .entry)) (now (output .exit)) ⌝ }
+    requires { ⌜ (16384 ≤ length (now numbers)) × (192 ≤ length (now result)) × (15552 ≤ length (now work)) × (4097 ≤ length (now counts)) × (wantedBytes wanted ≤ length (now output)) ⌝ }
+    ensures { λ r. ⌜ Put (ofText (wantedText wanted) (now (text .entry))) 0 r (now (output .entry)) (now (output .exit)) ⌝ }
 {
     match read_numbers(text, numbers) {
         Read::Malformed => put_refused(output, 9),
-        Read::Numbers(n) => put_numbers(&numbers[..n], result, work, counts, output),
+        Read::Numbers(n) => put_numbers(wanted, &numbers[..n], result, work, counts, output),
+    }
+}
+
+// The bytes that are surely enough for the text that is wanted.
+fn bytes_for(wanted: Wanted) -> usize
+    ensures { λ r. ⌜ r ≡ wantedBytes wanted ⌝ }
+{
+    match wanted {
+        Wanted::Misses => 262144,
+        Wanted::Cycles => 3145728,
     }
 }
 
 // Whether rooms of so many words and bytes are long enough.
-pub(crate) fn has_room(result: usize, work: usize, counts: usize, output: usize) -> bool
-    ensures { λ r. ⌜ r ≡ longEnough result work counts output ⌝ }
+pub(crate) fn has_room(
+    wanted: Wanted,
+    result: usize,
+    work: usize,
+    counts: usize,
+    output: usize,
+) -> bool
+    ensures { λ r. ⌜ r ≡ longEnough (wantedBytes wanted) result work counts output ⌝ }
 {
     if result < 192 {
         return false;
@@ -129,5 +204,5 @@ pub(crate) fn has_room(result: usize, work: usize, counts: usize, output: usize)
     if counts < 4097 {
         return false;
     }
-    262144 <= output
+    bytes_for(wanted) <= output
 }

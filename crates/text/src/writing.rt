@@ -4,7 +4,8 @@ ghost use Prim.Native.Nat.{_+_, _*_, _≤_};
 ghost use lib.ListN.{length};
 ghost use Rattle.basics.specs.Sums.{sumOver};
 ghost use Rattle.rules.specs.Units.{whole};
-ghost use Rattle.text.specs.Writing.{decimal, refusedLine, headLine, countLine};
+ghost use Rattle.text.specs.Writing.{decimal, refusedLine, headWords, headLine, countLine};
+ghost use Rattle.text.specs.Cycles.{longestLine};
 ghost use Rattle.text.specs.Put.{Put, countLines};
 use rules::Units;
 
@@ -49,17 +50,35 @@ pub(crate) fn put_refused(room: &mut [u8], number: u64) -> usize
     put(room, end, b"\n")
 }
 
-// The line of the states and the set-aside count.
-pub(crate) fn put_head(room: &mut [u8], states: u64, aside: u64) -> usize
-    requires { ⌜ 63 ≤ length (now room) ⌝ }
-    ensures { λ r. ⌜ Put (headLine states aside) 0 r (now (room .entry)) (now (room .exit)) ⌝ }
+// The number of states and the set-aside count.
+fn put_head_words(room: &mut [u8], states: u64, aside: u64) -> usize
+    requires { ⌜ 54 ≤ length (now room) ⌝ }
+    ensures { λ r. ⌜ Put (headWords states aside) 0 r (now (room .entry)) (now (room .exit)) ⌝ }
 {
     let counted = put_named(room, 0, b"states ", states);
-    let end = put_named(room, counted, b" aside ", aside);
+    put_named(room, counted, b" aside ", aside)
+}
+
+// They alone on the first line.
+pub(crate) fn put_head(room: &mut [u8], states: u64, aside: u64) -> usize
+    requires { ⌜ 55 ≤ length (now room) ⌝ }
+    ensures { λ r. ⌜ Put (headLine states aside) 0 r (now (room .entry)) (now (room .exit)) ⌝ }
+{
+    let end = put_head_words(room, states, aside);
     put(room, end, b"\n")
 }
 
-// A line of the curve.
+// They and the longest path's accesses on the first line.
+pub(crate) fn put_longest(room: &mut [u8], states: u64, aside: u64, longest: u64) -> usize
+    requires { ⌜ 84 ≤ length (now room) ⌝ }
+    ensures { λ r. ⌜ Put (longestLine states aside longest) 0 r (now (room .entry)) (now (room .exit)) ⌝ }
+{
+    let counted = put_head_words(room, states, aside);
+    let end = put_named(room, counted, b" longest ", longest);
+    put(room, end, b"\n")
+}
+
+// A line of the curve: misses or what they stand for, units there, units above.
 pub(crate) fn put_line(room: &mut [u8], at: usize, misses: u64, units: u64, above: u64) -> usize
     requires { ⌜ at + 63 ≤ length (now room) ⌝ }
     ensures { λ r. ⌜ Put (countLine misses units above) at r (now (room .entry)) (now (room .exit)) ⌝ }
@@ -70,10 +89,10 @@ pub(crate) fn put_line(room: &mut [u8], at: usize, misses: u64, units: u64, abov
     put(room, third, b"\n")
 }
 
-// A line for each of the counts: the units there, and what is left of WHOLE behind it.
-pub(crate) fn put_lines(room: &mut [u8], at: usize, counts: &[u64]) -> usize
-    requires { ⌜ (at + length (now counts) * 63 ≤ length (now room)) × (sumOver (λ n. n) (now counts) ≤ whole) ⌝ }
-    ensures { λ r. ⌜ Put (countLines 0 whole (now (counts .entry))) at r (now (room .entry)) (now (room .exit)) ⌝ }
+// A line for each of the counts: no misses stand for `first`, and each miss for `step` more; the units there, and what is left of WHOLE behind it.
+pub(crate) fn put_lines(room: &mut [u8], at: usize, counts: &[u64], first: u64, step: u64) -> usize
+    requires { ⌜ (at + length (now counts) * 63 ≤ length (now room)) × (sumOver (λ n. n) (now counts) ≤ whole) × (first + length (now counts) * step ≤ 4294967295) ⌝ }
+    ensures { λ r. ⌜ Put (countLines first step 0 whole (now (counts .entry))) at r (now (room .entry)) (now (room .exit)) ⌝ }
 {
     let whole = Units::WHOLE;
     let mut left = whole.0;
@@ -81,7 +100,7 @@ pub(crate) fn put_lines(room: &mut [u8], at: usize, counts: &[u64]) -> usize
     let mut m: usize = 0;
     while m < counts.len() {
         left -= counts[m];
-        end = put_line(room, end, m as u64, counts[m], left);
+        end = put_line(room, end, first + m as u64 * step, counts[m], left);
         m += 1;
     }
     end

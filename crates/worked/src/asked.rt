@@ -1,22 +1,24 @@
 // The questions put to a table that the graph call left in its result room; and what has to be answered, from the document's states.
+use crate::cycles::every_core;
 use crate::expected::MOST;
 use crate::expected::first_budget;
 use crate::expected::has_counts;
 use crate::expected::last_count;
+use crate::expected::one_less;
+use crate::expected::plus;
 use crate::expected::units_above;
 use crate::numbers::HALF;
+use crate::numbers::RARE;
 use crate::numbers::WHOLE;
 use crate::report::Report;
 use crate::rooms::is_marked;
 use crate::rooms::mark;
 use crate::said::amount_said;
 use crate::said::count_said;
+use crate::shown::say_cycles;
 use questions::above_in;
 use questions::smallest_budget_in;
 use questions::spread_in;
-
-// One in 10^9, in units, rounded down.
-const RARE: u64 = 281474;
 
 // The spread into `room`.
 pub(crate) fn spread(
@@ -87,13 +89,6 @@ fn each_budget(result: &[u64], n: usize, end: u64, states: &[u64], report: Repor
         b += 1;
     }
     all
-}
-
-fn one_less(n: u64) -> u64 {
-    if n == 0 {
-        return 0;
-    }
-    n - 1
 }
 
 // Every question that can be put to the table of these states, in a room of exactly the length that is needed, one shorter, and longer.
@@ -181,15 +176,18 @@ fn say_answers(name: &[u8], result: &[u64], n: usize) {
     say_budgets(name, result, n);
 }
 
-// A worked case: its answers are written, and every question is compared.
+// A worked case, whose longest path has `longest` accesses: its answers are written, and every question is compared.
 pub(crate) fn ask_case(
     name: &[u8],
     result: &[u64],
     n: usize,
+    longest: u64,
     states: &[u64],
     report: Report,
 ) -> Report {
     say_answers(name, result, n);
+    say_cycles(name, result, n, longest);
     let mut room: [u64; 10] = [0; 10];
-    every_question(result, n, &mut room, states, report)
+    let asked = every_question(result, n, &mut room, states, report);
+    every_core(result, n, longest, 0, plus(longest, 1), states, asked)
 }

@@ -3,11 +3,18 @@
 // The largest number: it stands for a sum that does not fit.
 pub(crate) const MOST: u64 = 18446744073709551615;
 
-fn plus(a: u64, b: u64) -> u64 {
+pub(crate) fn plus(a: u64, b: u64) -> u64 {
     if MOST - a < b {
         return MOST;
     }
     a + b
+}
+
+pub(crate) fn one_less(n: u64) -> u64 {
+    if n == 0 {
+        return 0;
+    }
+    n - 1
 }
 
 // `units` where `low` <= `misses` <= `high`.

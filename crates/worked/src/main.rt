@@ -1,19 +1,27 @@
 // Every number that document 01 gives, through the graph call and the questions: the worked cases of section 6, each asked every
-// question, and both sides of each refusal of section 5 but the text's. After each call the rooms are compared word by word.
+// question, and both sides of each refusal of section 5 but the text's. After each call the rooms are compared word by word. The
+// longest path and the questions in cycles (document 02, request 9/13) are asked of the same graphs and tables, and of some more.
 use crate::cases::all_cases;
+use crate::cycle_refusals::all_cycle_refusals;
 use crate::numbers::say;
+use crate::paths::all_paths;
 use crate::refusals::all_refusals;
 use crate::report::Report;
 use crate::tables::all_tables;
 
 mod asked;
 mod cases;
+mod cores;
+mod cycle_refusals;
+mod cycles;
 mod expected;
 mod numbers;
+mod paths;
 mod refusals;
 mod report;
 mod rooms;
 mod said;
+mod shown;
 mod tables;
 mod together;
 mod trial;
@@ -25,7 +33,8 @@ fn main() {
     };
     let cases = all_cases(nothing);
     let refusals = all_refusals(cases);
-    let all = all_tables(refusals);
+    let tables = all_tables(refusals);
+    let all = all_cycle_refusals(all_paths(tables));
     say(b"comparisons ", all.comparisons);
     say(b"failed ", all.failed);
 }

@@ -7,6 +7,9 @@ pub(crate) const HALF: u64 = 140737488355328;
 
 pub(crate) const QUARTER: u64 = 70368744177664;
 
+// One in 10^9, in units, rounded down.
+pub(crate) const RARE: u64 = 281474;
+
 // The largest 32-bit number.
 pub(crate) const TOP: u32 = 4294967295;
 

@@ -62,8 +62,11 @@ fn tracked(report: Report) -> Report {
     let more: [u32; 17] = [0, 1, 2, 3, 4, 5, 6, 7, 8, 9, 10, 11, 12, 13, 14, 15, TOP];
     let none = tracking(b"0 tracked", &[], 0, report);
     let sixteen = tracking(b"16 tracked", &most, 0, none);
-    let seventeen = tracking(b"17 tracked", &more, 3, sixteen);
-    let twice = tracking(b"one tracked twice", &[10, 11, 10], 3, seventeen);
+    tracking(b"17 tracked", &more, 3, sixteen)
+}
+
+fn tracked_twice(report: Report) -> Report {
+    let twice = tracking(b"one tracked twice", &[10, 11, 10], 3, report);
     tracking(b"4294967295 tracked twice", &[TOP, TOP], 3, twice)
 }
 
@@ -91,25 +94,17 @@ fn accesses(report: Report) -> Report {
     same_block(b"4097 accesses", &[4097], &more, 4, passed)
 }
 
+// One run of two accesses.
+fn two_accesses(name: &[u8], run: u32, refusal: u64, report: Report) -> Report {
+    same_block(name, &[run], &[10, 10], refusal, report)
+}
+
 // The run lengths have to sum to the two accesses.
 fn lengths(report: Report) -> Report {
-    let right = same_block(b"run lengths that sum", &[2], &[10, 10], 0, report);
-    let short = same_block(b"run lengths one short", &[1], &[10, 10], 5, right);
-    let long = same_block(b"run lengths one over", &[3], &[10, 10], 5, short);
-    let top = same_block(b"run length 4294967295", &[TOP], &[10, 10], 5, long);
-    answer(
-        b"run lengths that sum to 2 past 32 bits",
-        2,
-        64,
-        &[10],
-        &[TOP, 3],
-        &[10, 10],
-        &[0, 1],
-        enough(),
-        5,
-        &[],
-        top,
-    )
+    let right = two_accesses(b"run lengths that sum", 2, 0, report);
+    let short = two_accesses(b"run lengths one short", 1, 5, right);
+    let long = two_accesses(b"run lengths one over", 3, 5, short);
+    two_accesses(b"run length 4294967295", TOP, 5, long)
 }
 
 // The edges 0 to 1, 1 to 2, and so on.
@@ -178,6 +173,12 @@ fn nodes(report: Report) -> Report {
     row(b"0 nodes", &[], &[], &mut [], 5, refused)
 }
 
+// Two runs whose lengths sum to the two accesses where the sum wraps.
+fn wrapped_length(report: Report) -> Report {
+    let name = b"run lengths that sum to 2 past 32 bits";
+    row(name, &[TOP, 3], &[10, 10], &mut [0, 0], 5, report)
+}
+
 // Nodes with empty runs.
 fn graph(name: &[u8], runs: &[u32], edges: &[u32], refusal: u64, report: Report) -> Report {
     answer(
@@ -195,51 +196,40 @@ fn graph(name: &[u8], runs: &[u32], edges: &[u32], refusal: u64, report: Report)
     )
 }
 
+fn two_nodes(name: &[u8], edges: &[u32], refusal: u64, report: Report) -> Report {
+    graph(name, &[0, 0], edges, refusal, report)
+}
+
 fn three_nodes(name: &[u8], edges: &[u32], refusal: u64, report: Report) -> Report {
     graph(name, &[0, 0, 0], edges, refusal, report)
 }
 
 fn edge_ends(report: Report) -> Report {
-    let kept = three_nodes(
-        b"edges that keep every rule",
-        &[0, 1, 0, 2, 1, 2],
-        0,
-        report,
-    );
-    let odd = graph(
-        b"an odd count of edge numbers",
-        &[0, 0],
-        &[0, 1, 0],
-        5,
-        kept,
-    );
+    let edges: [u32; 6] = [0, 1, 0, 2, 1, 2];
+    let kept = three_nodes(b"edges that keep every rule", &edges, 0, report);
+    let odd = two_nodes(b"an odd count of edge numbers", &[0, 1, 0], 5, kept);
     let same = three_nodes(b"an edge from 1 to 1", &[0, 1, 1, 1, 1, 2], 5, odd);
-    let back = three_nodes(b"an edge from 2 to 1", &[0, 1, 2, 1, 1, 2], 5, same);
-    let past = graph(
-        b"an edge to the node count",
-        &[0, 0],
-        &[0, 1, 0, 2],
-        5,
-        back,
-    );
-    let far = graph(b"an edge to 4294967295", &[0, 0], &[0, 1, 0, TOP], 5, past);
-    graph(
-        b"an edge from 4294967295 to 4294967295",
-        &[0, 0],
-        &[TOP, TOP],
-        5,
-        far,
-    )
+    three_nodes(b"an edge from 2 to 1", &[0, 1, 2, 1, 1, 2], 5, same)
+}
+
+fn edges_past(report: Report) -> Report {
+    let past = two_nodes(b"an edge to the node count", &[0, 1, 0, 2], 5, report);
+    let far = two_nodes(b"an edge to 4294967295", &[0, 1, 0, TOP], 5, past);
+    let name = b"an edge from 4294967295 to 4294967295";
+    two_nodes(name, &[TOP, TOP], 5, far)
 }
 
 fn edge_order(report: Report) -> Report {
     let to = three_nodes(b"edges falling by to", &[0, 2, 0, 1, 1, 2], 5, report);
-    let equal = graph(b"an edge listed twice", &[0, 0], &[0, 1, 0, 1], 5, to);
-    let from = three_nodes(b"edges falling by from", &[0, 1, 1, 2, 0, 2], 5, equal);
-    let no_in = three_nodes(b"a node without an edge in", &[0, 2, 1, 2], 5, from);
+    let equal = two_nodes(b"an edge listed twice", &[0, 1, 0, 1], 5, to);
+    three_nodes(b"edges falling by from", &[0, 1, 1, 2, 0, 2], 5, equal)
+}
+
+fn edges_missing(report: Report) -> Report {
+    let no_in = three_nodes(b"a node without an edge in", &[0, 2, 1, 2], 5, report);
     let no_out = three_nodes(b"a node without an edge out", &[0, 1, 0, 2], 5, no_in);
     let alone = graph(b"one node without edges", &[0], &[], 0, no_out);
-    graph(b"two nodes without edges", &[0, 0], &[], 5, alone)
+    two_nodes(b"two nodes without edges", &[], 5, alone)
 }
 
 // One access in rooms of these sizes, in words.
@@ -290,7 +280,8 @@ fn working_rooms(report: Report) -> Report {
 }
 
 pub(crate) fn all_refusals(report: Report) -> Report {
-    let numbers = accesses(tracked(limits(ways(report))));
-    let graphs = edge_order(edge_ends(nodes(lengths(numbers))));
-    all_together(working_rooms(result_rooms(graphs)))
+    let blocks = tracked_twice(tracked(limits(ways(report))));
+    let runs = nodes(wrapped_length(lengths(accesses(blocks))));
+    let edges = edges_missing(edge_order(edges_past(edge_ends(runs))));
+    all_together(working_rooms(result_rooms(edges)))
 }

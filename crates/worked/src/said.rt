@@ -1,6 +1,8 @@
 // What a question answered, in numbers.
 use rules::Amount;
 use rules::Count;
+use rules::Length;
+use rules::Time;
 
 // A refusal's number and 0, or 0 and the value.
 pub(crate) struct Said {
@@ -28,6 +30,32 @@ pub(crate) fn count_said(answer: Count) -> Said {
             value: misses,
         },
         Count::Refused(why) => Said {
+            refusal: why.number(),
+            value: 0,
+        },
+    }
+}
+
+pub(crate) fn time_said(answer: Time) -> Said {
+    match answer {
+        Time::Cycles(cycles) => Said {
+            refusal: 0,
+            value: cycles,
+        },
+        Time::Refused(why) => Said {
+            refusal: why.number(),
+            value: 0,
+        },
+    }
+}
+
+pub(crate) fn length_said(answer: Length) -> Said {
+    match answer {
+        Length::Accesses(accesses) => Said {
+            refusal: 0,
+            value: accesses,
+        },
+        Length::Refused(why) => Said {
             refusal: why.number(),
             value: 0,
         },

@@ -60,38 +60,41 @@ fn no_room(
 
 // Two reasons.
 fn pairs(report: Report) -> Report {
-    let twice: [u32; 2] = [10, 10];
+    let name = b"K 65 with one tracked twice";
     let both = one_node(b"N 0 with K 0", 0, 0, &[10], &[10], 1, report);
-    let limit = one_node(
-        b"K 65 with one tracked twice",
-        2,
-        65,
-        &twice,
-        &[10],
-        2,
-        both,
-    );
-    let length = no_room(
-        b"run lengths one short in no room",
-        2,
-        64,
-        &[10],
-        &twice,
-        5,
-        limit,
-    );
+    one_node(name, 2, 65, &[10, 10], &[10], 2, both)
+}
+
+fn pairs_in_no_room(report: Report) -> Report {
+    let name = b"run lengths one short in no room";
+    let length = no_room(name, 2, 64, &[10], &[10, 10], 5, report);
     no_room(b"N 17 in no room", 17, 64, &[10], &[10], 1, length)
+}
+
+// 4,097 accesses in no room, which are one more than the run length and one too many.
+fn too_many(
+    name: &[u8],
+    ways: u32,
+    limit: u32,
+    tracked: &[u32],
+    refusal: u64,
+    report: Report,
+) -> Report {
+    let list: [u32; 4097] = [10; 4097];
+    no_room(name, ways, limit, tracked, &list, refusal, report)
 }
 
 // All six reasons, and then one less at each step.
 fn many(report: Report) -> Report {
     let twice: [u32; 2] = [10, 10];
-    let list: [u32; 4097] = [10; 4097];
-    let all = no_room(b"reasons 1 to 6", 0, 0, &twice, &list, 1, report);
-    let but_1 = no_room(b"reasons 2 to 6", 1, 0, &twice, &list, 2, all);
-    let but_2 = no_room(b"reasons 3 to 6", 1, 1, &twice, &list, 3, but_1);
-    let but_3 = no_room(b"reasons 4 to 6", 1, 1, &[10], &list, 4, but_2);
-    let but_4 = no_room(b"reasons 5 and 6", 1, 1, &[10], &[], 5, but_3);
+    let all = too_many(b"reasons 1 to 6", 0, 0, &twice, 1, report);
+    let but_1 = too_many(b"reasons 2 to 6", 1, 0, &twice, 2, all);
+    let but_2 = too_many(b"reasons 3 to 6", 1, 1, &twice, 3, but_1);
+    too_many(b"reasons 4 to 6", 1, 1, &[10], 4, but_2)
+}
+
+fn few(report: Report) -> Report {
+    let but_4 = no_room(b"reasons 5 and 6", 1, 1, &[10], &[], 5, report);
     no_room(b"reason 6", 1, 1, &[10], &[10], 6, but_4)
 }
 
@@ -135,5 +138,6 @@ fn top(report: Report) -> Report {
 }
 
 pub(crate) fn all_together(report: Report) -> Report {
-    top(top_block(many(pairs(report))))
+    let two = pairs_in_no_room(pairs(report));
+    top(top_block(few(many(two))))
 }

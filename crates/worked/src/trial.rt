@@ -2,6 +2,9 @@
 use crate::asked::ask_case;
 use crate::numbers::say;
 use crate::numbers::say_states;
+use crate::paths::ask_longest;
+use crate::paths::compare_longest;
+use crate::paths::longest_said;
 use crate::report::Report;
 use crate::rooms::has_only;
 use crate::rooms::is_marked;
@@ -57,12 +60,13 @@ fn compare_refusal(got: Got, result: &[u64], work: &[u64], refusal: u64, report:
         .compared(is_marked(work))
 }
 
-// After a worked case: the states that it got are written, and every question is put to them.
+// After a worked case: the states that it got are written, and every question is put to them, in cycles with its longest path.
 fn compare_case(
     name: &[u8],
     got: Got,
     result: &[u64],
     work: &[u64],
+    longest: u64,
     states: &[u64],
     aside: u64,
     report: Report,
@@ -70,7 +74,7 @@ fn compare_case(
     io::write_all(1, name);
     say_states(result, got.states);
     say(b" aside ", got.aside);
-    let asked = ask_case(name, result, got.states, states, report);
+    let asked = ask_case(name, result, got.states, longest, states, report);
     compare_table(got, result, work, states, aside, asked)
 }
 
@@ -89,10 +93,12 @@ fn case_in(
     aside: u64,
     report: Report,
 ) -> Report {
+    let longest = longest_said(ways, limit, tracked, runs, accesses, edges);
+    let paths = compare_longest(longest, 0, accesses, report);
     mark(result);
     mark(work);
     let got = got_of(analyse(ways, limit, tracked, runs, accesses, edges, result, work));
-    compare_case(name, got, result, work, states, aside, report)
+    compare_case(name, got, result, work, longest.value, states, aside, paths)
 }
 
 // A worked case in rooms that are longer than they have to be.
@@ -167,14 +173,15 @@ fn answer_in(
     states: &[u64],
     report: Report,
 ) -> Report {
+    let paths = ask_longest(ways, limit, tracked, runs, accesses, edges, refusal, report);
     mark(result);
     mark(work);
     let got = got_of(analyse(ways, limit, tracked, runs, accesses, edges, result, work));
     say_answer(b"refusals: ", name, got.refusal);
     if refusal == 0 {
-        return compare_table(got, result, work, states, 0, report);
+        return compare_table(got, result, work, states, 0, paths);
     }
-    compare_refusal(got, result, work, refusal, report)
+    compare_refusal(got, result, work, refusal, paths)
 }
 
 // The same in the first words of two rooms.

@@ -2,9 +2,10 @@
 use mathlib.Core.Path.{sym, _∙_}
 use native.Mathlib.Omega.{arith}
 use denote.Ref.{now}
+use Rattle.rules.proofs.Refusals.{checked}
 use Rattle.words.specs.Tables.{tableOf}
 use Rattle.estimate.specs.Call.{handed}
-use Rattle.estimate.proofs.Calls.{checked, checked-without, leaves-refused, leaves-finished, last-table, last-aside, finished-fits}
+use Rattle.estimate.proofs.Calls.{checked-without, leaves-refused, leaves-finished, last-table, last-aside, finished-fits}
 use borrow.Author.Needs.{needs}
 use Rattle.estimate.proofs.analyse.Statement.{statement}
 use Rattle.estimate.proofs.analyse.Tie as tie

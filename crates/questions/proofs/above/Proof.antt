@@ -2,7 +2,7 @@
 use Rattle.rules.specs.Questions.{aboveAnswer}
 use Rattle.rules.proofs.Amount as amount
 use Rattle.rules.proofs.Amount.Laws as amount-laws
-use Rattle.questions.proofs.Asking.{question}
+use Rattle.questions.proofs.Asking.{of-one, question}
 use Rattle.questions.proofs.Copies.{above-copied}
 use Rattle.questions.proofs.row.above_held.Symbol.{name as #above-held, routine as above-held-routine}
 use Rattle.questions.proofs.row.above_held.Met as above-held-thm
@@ -13,5 +13,5 @@ use Rattle.questions.proofs.above.Code as code
 pub above-spec : {M : Type 1} → statement M
 unfolding code.routine
 above-spec 𝓤 H 𝓜 𝓖 𝓡 =
-    question amount.the-type amount-laws.the-laws tt aboveAnswer above-copied #above-held 𝓤 H 𝓜 𝓖 𝓡 code.env #above (code.unfolded 𝓤 H 𝓜 𝓡)
+    question (of-one amount.the-type amount-laws.the-laws tt aboveAnswer above-copied #above-held) 𝓤 H 𝓜 𝓖 𝓡 code.env #above (code.unfolded 𝓤 H 𝓜 𝓡)
     code.calls-questions·row·copy above-held-routine code.calls-questions·row·above-held (above-held-thm.met 𝓤 H 𝓜 𝓖 𝓡)

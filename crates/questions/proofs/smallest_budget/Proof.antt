@@ -2,7 +2,7 @@
 use Rattle.rules.specs.Questions.{budgetAnswer}
 use Rattle.rules.proofs.Count as count
 use Rattle.rules.proofs.Count.Laws as count-laws
-use Rattle.questions.proofs.Asking.{question}
+use Rattle.questions.proofs.Asking.{of-one, question}
 use Rattle.questions.proofs.Copies.{budget-copied}
 use Rattle.questions.proofs.row.budget_held.Symbol.{name as #budget-held, routine as budget-held-routine}
 use Rattle.questions.proofs.row.budget_held.Met as budget-held-thm
@@ -13,5 +13,5 @@ use Rattle.questions.proofs.smallest_budget.Code as code
 pub smallest-budget-spec : {M : Type 1} → statement M
 unfolding code.routine
 smallest-budget-spec 𝓤 H 𝓜 𝓖 𝓡 =
-    question count.the-type count-laws.the-laws tt budgetAnswer budget-copied #budget-held 𝓤 H 𝓜 𝓖 𝓡 code.env #smallest-budget (code.unfolded 𝓤 H 𝓜 𝓡)
+    question (of-one count.the-type count-laws.the-laws tt budgetAnswer budget-copied #budget-held) 𝓤 H 𝓜 𝓖 𝓡 code.env #smallest-budget (code.unfolded 𝓤 H 𝓜 𝓡)
     code.calls-questions·row·copy budget-held-routine code.calls-questions·row·budget-held (budget-held-thm.met 𝓤 H 𝓜 𝓖 𝓡)

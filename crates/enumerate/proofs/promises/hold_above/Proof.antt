@@ -5,10 +5,10 @@ use Rattle.enumerate.proofs.promises.hold_above.Statement.{statement}
 use Rattle.enumerate.proofs.promises.hold_above.Tie as tie
 
 abbrev Inv-loop : tie.InvT-loop
-Inv-loop table aside counts all budgets tight done₀ budget₀ done budget = budget ≤ budgets
+Inv-loop table aside counts path end done₀ budget₀ done budget = budget ≤ end
 
 abbrev μ-loop : tie.MeasureT-loop
-μ-loop table aside counts all budgets tight done₀ budget₀ done budget = budgets - budget
+μ-loop table aside counts path end done₀ budget₀ done budget = end - budget
 
 pub hold-above-spec : {M : Type 1} → statement M
-hold-above-spec = tie.close (tie.spec Inv-loop μ-loop (λ c. search needs) (λ c κs. search needs) (λ c. search needs) (λ c. search needs) (λ c. search needs) (λ c. search needs))
+hold-above-spec = tie.close (tie.spec Inv-loop μ-loop (λ c κs. search needs) (λ c. search needs) (λ c κs. search needs) (λ c. search needs) (λ c. search needs) (λ c. search needs) (λ c. search needs))

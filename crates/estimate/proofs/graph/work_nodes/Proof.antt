@@ -8,10 +8,10 @@ use denote.Ref.{now}
 use lib.ListN.{length}
 use Rattle.rules.specs.Input.{inputOf, offset}
 use Rattle.rules.specs.Graph.{worked}
-use Rattle.rules.proofs.Graph.{offset-next}
+use Rattle.rules.proofs.Graph.{offset-next, run-within, run-long}
 use Rattle.words.specs.Tables.{tableOf}
 use Rattle.estimate.specs.Rooms.{workedIn}
-use Rattle.estimate.proofs.Graphs.{offset-start, nodes-start, run-within, run-part, run-long, node-startable, nodes-next}
+use Rattle.estimate.proofs.Graphs.{offset-start, nodes-start, run-part, node-startable, nodes-next}
 use borrow.Author.Needs.{needs}
 use Rattle.estimate.proofs.graph.work_nodes.Statement.{statement}
 use Rattle.estimate.proofs.graph.work_nodes.Tie as tie

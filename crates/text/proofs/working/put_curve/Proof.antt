@@ -29,6 +29,7 @@ put-lines-requires c κs =
     let T = take (a .states) (tableOf (now (a .result))) in (
       omega (arith, counted-long T _ _ (n .ensures), n .ensures .count, head .ensures .ends, head .kept .0, head-long (a .states) (a .aside .0), table-largest T (start .pre .0)),
       counted-whole T _ _ (start .pre .0) (n .ensures),
+      omega (arith, counted-long T _ _ (n .ensures), n .ensures .count, table-largest T (start .pre .0)),
     )
 
 returns : tie.Need-returns

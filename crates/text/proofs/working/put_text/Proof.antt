@@ -1,10 +1,14 @@
--- `put_text` meets its contract: 9 for what is malformed, and otherwise the curve of the numbers that were read.
+-- `put_text` meets its contract: 9 for what is malformed, and otherwise the text that is wanted of the numbers that were read.
 use native.Mathlib.Omega.{arith}
 use borrow.Author.Needs.{needs}
 use Rattle.text.proofs.Putting.{put-is}
-use Rattle.text.proofs.Curves.{text-malformed, numbers-few, numbers-long, text-read}
+use Rattle.text.proofs.Printed.{text-malformed, numbers-few, numbers-long, text-read}
+use Rattle.text.proofs.Rooms.{line-fits}
 use Rattle.text.proofs.working.put_text.Statement.{statement}
 use Rattle.text.proofs.working.put_text.Tie as tie
+
+put-refused-requires : tie.Need-put-refused-requires
+put-refused-requires c κs = line-fits (c .before .before .before .before .before .before .before .before .before .before .before .before .before .args .wanted) _ (c .before .before .before .before .before .before .before .before .before .before .before .before .before .pre .4)
 
 numbers-within : tie.Need-slice-reshare-prefix-put-numbers
 numbers-within c =
@@ -15,10 +19,10 @@ numbers-are : tie.Need-slice-aggregate-put-numbers
 numbers-are c = numbers-long _ _ _ (c .before .before .before .before .before .before .read-numbers .ensures) _ (c .before .before .n .given .1)
 
 returns : tie.Need-returns
-returns c = put-is _ _ _ _ _ _ (c .before .before .put-refused .ensures) (text-malformed _ _ _ (c .before .before .before .before .before .before .before .before .read-numbers .ensures) (c .before .before .before .before .enum-told .given .1))
+returns c = put-is _ _ _ _ _ _ (c .before .before .put-refused .ensures) (text-malformed _ _ _ (c .before .before .before .before .before .before .before .before .read-numbers .ensures) _ (c .before .before .before .before .enum-told .given .1))
 
 returns-2 : tie.Need-returns-2
-returns-2 c = put-is _ _ _ _ _ _ (c .before .before .before .before .before .before .before .before .put-numbers .ensures) (text-read _ _ _ (c .before .before .before .before .before .before .before .before .before .before .before .before .before .before .before .before .before .before .before .read-numbers .ensures) _ (c .before .before .before .before .before .before .before .before .before .before .before .before .before .before .before .n .given .1))
+returns-2 c = put-is _ _ _ _ _ _ (c .before .before .before .before .before .before .before .before .put-numbers .ensures) (text-read _ _ _ (c .before .before .before .before .before .before .before .before .before .before .before .before .before .before .before .before .before .before .before .read-numbers .ensures) _ (c .before .before .before .before .before .before .before .before .before .before .before .before .before .before .before .n .given .1) _)
 
 pub put-text-spec : {M : Type 1} → statement M
 put-text-spec =
@@ -26,7 +30,7 @@ put-text-spec =
     (tie.spec
     (λ c κs. search needs)
     (λ c. search needs)
-    (λ c κs. search needs)
+    put-refused-requires
     (λ c. search needs)
     numbers-within
     numbers-are

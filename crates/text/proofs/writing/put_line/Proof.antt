@@ -1,13 +1,11 @@
 -- `put_line` meets its contract: three numbers, a space before the second and the third, and the newline behind them.
-use mathlib.Core.Path.{ap, sym, _∙_}
-use mathlib.Core.List.{List, [], _∷_, _++_, append-assoc}
+use mathlib.Core.List.{List, [], _∷_, _++_}
 use Prim.Native.Nat.{ℕ}
 use native.Mathlib.Omega.{arith}
 use borrow.Author.Needs.{needs}
-use lib.ListN.{length-append}
 use Rattle.text.specs.Writing.{decimal, countLine}
 use Rattle.text.proofs.Decimals.{decimal-long}
-use Rattle.text.proofs.Putting.{put-is, put-then}
+use Rattle.text.proofs.Putting.{put-then, put-named-then, length-named}
 use Rattle.text.proofs.writing.put_line.Statement.{statement}
 use Rattle.text.proofs.writing.put_line.Tie as tie
 
@@ -47,18 +45,23 @@ unfolding countLine
 returns c =
     let a = c .before .before .before .before .before .before .before .before .before .before .before .before .before .before .before .before .before .before .before .before .args in
     let m = decimal (a .misses) in
-    let u = (32 ∷ []) ++ decimal (a .units) in
-    let v = (32 ∷ []) ++ decimal (a .above) in
-    let two = put-then _ _ _ _ _ (c .before .before .before .before .before .before .before .before .before .before .before .before .before .before .before .before .before .put-number .ensures) (omega (arith, decimal-long (a .misses))) _ _ _ (c .before .before .before .before .before .before .before .before .before .before .before .before .put-named .ensures) in
+    let u = decimal (a .units) in
+    let v = decimal (a .above) in
+    let gap : List ℕ = 32 ∷ [] in
+    let two = put-named-then _ _ _ _ _ (c .before .before .before .before .before .before .before .before .before .before .before .before .before .before .before .before .before .put-number .ensures) (omega (arith, decimal-long (a .misses))) gap u _ _ (c .before .before .before .before .before .before .before .before .before .before .before .before .put-named .ensures) in
     let three =
-    put-then _ _ _ _ _ two (omega (arith, length-append m u, decimal-long (a .misses), decimal-long (a .units))) _ _ _ (c .before .before .before .before .before .before .before .put-named2 .ensures)
+    put-named-then _ _ _ _ _ two (omega (arith, length-named m gap u, decimal-long (a .misses), decimal-long (a .units))) gap v _ _ (c .before .before .before .before .before .before .before .put-named2 .ensures)
     in
-    put-is _ _ _ _ _ _
-    (put-then _ _ _ _ _ three
-    (omega (arith, length-append (m ++ u) v, length-append m u, decimal-long (a .misses), decimal-long (a .units), decimal-long (a .above)))
-    _ _ _ (c .before .before .put .ensures))
-    (ap (λ (t : List ℕ). t ++ (10 ∷ []))
-    (ap (λ (t : List ℕ). t ++ v) (sym (append-assoc m (32 ∷ []) (decimal (a .units)))) ∙ sym (append-assoc (m ++ (32 ∷ []) ++ decimal (a .units)) (32 ∷ []) (decimal (a .above)))))
+    put-then _ _ _ _ _ three
+    (omega (
+      arith,
+      length-named m gap u,
+      length-named (m ++ gap ++ u) gap v,
+      decimal-long (a .misses),
+      decimal-long (a .units),
+      decimal-long (a .above),
+    ))
+    _ _ _ (c .before .before .put .ensures)
 
 pub put-line-spec : {M : Type 1} → statement M
 put-line-spec =

@@ -1,0 +1,42 @@
+// The program for curves in cycles: standard input to standard output. All that it does itself is to move bytes; what they are is `text`'s.
+use text::Written;
+use text::cycles_of_text;
+
+// The first `n` bytes go to standard output.
+fn write_front(bytes: &[u8], n: usize) {
+    if n <= bytes.len() {
+        io::write_all(1, &bytes[..n]);
+    }
+}
+
+// The curves in cycles of a text go to standard output, by way of `output`; the other rooms have the sizes that are needed.
+fn write_cycles(input: &[u8], output: &mut [u8]) {
+    let mut numbers: [u32; 16384] = [0; 16384];
+    let mut result: [u64; 192] = [0; 192];
+    let mut work: [u64; 15552] = [0; 15552];
+    let mut counts: [u64; 4097] = [0; 4097];
+    match cycles_of_text(
+        input,
+        &mut numbers,
+        &mut result,
+        &mut work,
+        &mut counts,
+        output,
+    ) {
+        Written::Bytes(n) => write_front(output, n),
+        Written::NoRoom => {}
+    }
+}
+
+// The room for the text has the size that is needed.
+fn with_output(input: &[u8]) {
+    let mut output: [u8; 3145728] = [0; 3145728];
+    write_cycles(input, &mut output);
+}
+
+// One byte more than a text may have is read, so that a longer one is seen to be too long.
+fn main() {
+    let mut input: [u8; 65537] = [0; 65537];
+    let n = io::read_full(0, &mut input);
+    with_output(&input[..n]);
+}

@@ -1,0 +1,29 @@
+-- `estimate_cycles_of_numbers` gives what `cycles_of_numbers` answers: how many bytes, or 0 where a room is too short; the rooms are as it leaves them.
+use Rattle.estimate_c.proofs.Given.{numbers-given}
+use borrow.Author.Needs.{needs}
+use Rattle.estimate_c.proofs.estimate_cycles_of_numbers.Statement.{statement}
+use Rattle.estimate_c.proofs.estimate_cycles_of_numbers.Tie as tie
+
+returns : tie.Need-returns
+returns c = numbers-given _ (c .before .n .given .1) (c .before .before .before .before .before .before .before .before .before .before .before .cycles-of-numbers .ensures)
+
+returns-2 : tie.Need-returns-2
+returns-2 c = numbers-given _ (c .enum-told .given .1) (c .before .before .before .before .before .before .before .before .before .before .cycles-of-numbers .ensures)
+
+pub estimate-cycles-of-numbers-spec : {M : Type 1} → statement M
+estimate-cycles-of-numbers-spec =
+    tie.close
+    (tie.spec
+    (λ c κs. search needs)
+    (λ c. search needs)
+    (λ c. search needs)
+    (λ c. search needs)
+    (λ c. search needs)
+    (λ c. search needs)
+    (λ c. search needs)
+    returns
+    (λ c. search needs)
+    (λ c. search needs)
+    (λ c. search needs)
+    (λ c. search needs)
+    returns-2)

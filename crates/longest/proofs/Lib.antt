@@ -1,0 +1,2 @@
+-- The ends of the nodes
+pub mod Ends

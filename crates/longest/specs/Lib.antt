@@ -1,0 +1,2 @@
+-- What the longest path looks at
+pub mod Graph

@@ -1,0 +1,77 @@
+-- The lines of the cores, put one core behind the other: that no number in them wraps, how long they are, and what is put after some of them.
+use mathlib.Core.Path.{_≡_, sym, ap}
+use mathlib.Core.List.{List, [], _++_}
+use Prim.Native.Nat.{ℕ, zero, suc, _+_, _-_, _*_, _≤_, _<_}
+use native.Mathlib.Nat.{le-refl, le-of-lt, add-zero, mul-le-mul}
+use native.Mathlib.Numerals.{add-one}
+use native.Mathlib.Omega.{arith}
+use lib.ListN.{length, length-append}
+use lib.Seq.{paste-zero}
+use Rattle.rules.specs.declared.Core.{Core}
+use Rattle.rules.specs.Units.{whole}
+use Rattle.rules.specs.Cycles.{cores, coreAt}
+use Rattle.rules.proofs.Cycles.{miss-above-hit, small-cycles}
+use Rattle.text.specs.Writing.{linesBelow}
+use Rattle.text.specs.Cycles.{coreLine}
+use Rattle.text.specs.Put.{Put, countLines, coreCounts}
+use Rattle.text.proofs.Decimals.{decimal-long}
+use Rattle.text.proofs.Putting.{put-is, put-then, lines-long}
+
+-- ---- one core
+
+module _ (k : ℕ) (known : k < 12) (L : ℕ) (path : L ≤ 4096) (c : Core) (is : c ≡ coreAt k) where
+  pub miss-dearer : c .hit ≤ c .miss
+  unfolding cores
+  miss-dearer = rw is (le-of-lt (miss-above-hit k known))
+
+  pub hits-fit : L * c .hit ≤ 4096 * 100
+  hits-fit = rw is (mul-le-mul path (small-cycles k .0))
+
+  pub cycles-fit : (us : List ℕ) → length us ≤ 4097 → L * c .hit + length us * (c .miss - c .hit) ≤ 4294967295
+  cycles-fit us few =
+      let extra : c .miss - c .hit ≤ 100 = rw is (omega (arith, small-cycles k .1)) in
+      omega (arith, hits-fit, mul-le-mul few extra)
+
+  pub core-put : (us : List ℕ) (at r : ℕ) (o o₁ : List ℕ) → Put (coreLine k c ++ countLines (L * c .hit) (c .miss - c .hit) 0 whole us) at r o o₁
+      → Put (coreCounts L us k) at r o o₁
+  unfolding coreCounts
+  core-put us at r o o₁ done = rw is at done
+
+pub core-line-long : (k : ℕ) (c : Core) → length (coreLine k c) ≤ 77
+unfolding coreLine
+core-line-long k c = simp (length-append) (omega (arith, decimal-long k, decimal-long (c .hit), decimal-long (c .miss)))
+
+-- ---- one behind the other
+
+module _ (L : ℕ) (us : List ℕ) (few : length us ≤ 4097) where
+  core-long : (k : ℕ) → length (coreCounts L us k) ≤ 258188
+  unfolding coreCounts
+  core-long k =
+      let c = coreAt k in
+      omega (
+        arith,
+        length-append (coreLine k c) (countLines (L * c .hit) (c .miss - c .hit) 0 whole us),
+        core-line-long k c,
+        lines-long (L * c .hit) (c .miss - c .hit) 0 whole us,
+      )
+
+  cores-long : (n : ℕ) → length (linesBelow (coreCounts L us) n) ≤ n * 258188
+  unfolding linesBelow
+  cores-long zero = le-refl 0
+  cores-long (suc n) =
+      omega (arith, length-append (linesBelow (coreCounts L us) n) (coreCounts L us n), cores-long n, core-long n)
+
+  pub cores-none : (at : ℕ) (o : List ℕ) → Put (linesBelow (coreCounts L us) 0) at at o o
+  unfolding linesBelow
+  cores-none at o = record { ends = sym (add-zero at); room = paste-zero o at [] }
+
+  -- the lines of the cores before core n are put, and end at e
+  module _ (at n e : ℕ) (o o₁ : List ℕ) (so-far : Put (linesBelow (coreCounts L us) n) at e o o₁) (more : n < 12) (long : at + 12 * 258188 ≤ length o) where
+    pub core-fits : length o₁ ≡ length o → e + 258188 ≤ length o₁
+    core-fits same = omega (arith, so-far .ends, cores-long n)
+
+    pub cores-more : (e₂ : ℕ) (o₂ : List ℕ) → Put (coreCounts L us n) e e₂ o₁ o₂ → Put (linesBelow (coreCounts L us) (n + 1)) at e₂ o o₂
+    unfolding linesBelow
+    cores-more e₂ o₂ next =
+        put-is _ _ at e₂ o o₂ (put-then (linesBelow (coreCounts L us) n) at e o o₁ so-far (omega (arith, cores-long n)) (coreCounts L us n) e₂ o₂ next)
+        (ap (linesBelow (coreCounts L us)) (sym (add-one n)))

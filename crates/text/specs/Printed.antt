@@ -1,0 +1,30 @@
+-- What is printed: document 01, section 7. What is malformed is refused with 9, then the refusals of the graph call are given, then comes the text of
+-- an accepted input: `text` is the curve, or the curves in cycles.
+use mathlib.Core.Bool.{cond}
+use mathlib.Core.List.{List}
+use Prim.Native.Nat.{ℕ}
+use Rattle.rules.specs.declared.Refusal.the-variants.{Text}
+use Rattle.rules.specs.declared.Verdict.{Verdict}
+use Rattle.rules.specs.declared.Verdict.the-variants.{Accepted, Refused}
+use Rattle.rules.specs.Answers.{numberOf}
+use Rattle.rules.specs.Input.{Input}
+use Rattle.rules.specs.Refusals.{verdict}
+use Rattle.text.specs.Reading.{wellFormed, numbersIn}
+use Rattle.text.specs.Parts.{complete, inputFrom}
+use Rattle.text.specs.Writing.{refusedLine}
+
+abbrev pub told : Verdict → List ℕ → List ℕ
+told Accepted text = text
+told (Refused r) text = refusedLine (numberOf r)
+
+-- for an input
+unfoldable pub ofInput : (Input → List ℕ) → Input → List ℕ
+ofInput text i = told (verdict i) (text i)
+
+-- for a list of numbers in the curve's order
+unfoldable pub ofNumbers : (Input → List ℕ) → List ℕ → List ℕ
+ofNumbers text ns = cond (complete ns) (ofInput text (inputFrom ns)) (refusedLine (numberOf Text))
+
+-- for a text
+unfoldable pub ofText : (Input → List ℕ) → List ℕ → List ℕ
+ofText text bytes = cond (wellFormed bytes) (ofNumbers text (numbersIn bytes)) (refusedLine (numberOf Text))

@@ -1,0 +1,24 @@
+-- Which text is wanted: what an accepted input prints, the bytes that are surely enough for it, and what is left after it.
+use mathlib.Core.List.{List}
+use Prim.Native.Nat.{ℕ}
+use Rattle.rules.specs.Input.{Input}
+use Rattle.text.specs.declared.working.Wanted.{Wanted}
+use Rattle.text.specs.declared.working.Wanted.the-variants.{Misses, Cycles}
+use Rattle.text.specs.Printed.{ofNumbers, ofText}
+use Rattle.text.specs.Curve.{curve}
+use Rattle.text.specs.Cycles.{inCycles}
+use Rattle.text.specs.Rooms.{Rooms, enough, curveBytes, cyclesBytes, After, leaves, AfterText, leavesText}
+
+abbrev pub wantedText : Wanted → Input → List ℕ
+wantedText Misses = curve
+wantedText Cycles = inCycles
+
+abbrev pub wantedBytes : Wanted → ℕ
+wantedBytes Misses = curveBytes
+wantedBytes Cycles = cyclesBytes
+
+abbrev pub wantedAfter : Wanted → List ℕ → Rooms → After
+wantedAfter w ns r = leaves (enough (wantedBytes w) r) (ofNumbers (wantedText w) ns) r
+
+abbrev pub wantedAfterText : Wanted → List ℕ → List ℕ → Rooms → AfterText
+wantedAfterText w text numbers r = leavesText (enough (wantedBytes w) r) (ofText (wantedText w) text) numbers r

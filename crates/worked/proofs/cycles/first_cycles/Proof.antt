@@ -1,0 +1,15 @@
+-- `first_cycles` is safe and ends: each turn tries the cycles of one state, and a state's three words lie within the states. Assumes nothing.
+use Prim.Native.Nat.{_≤_, _*_, _-_}
+use lib.ListN.{length}
+use borrow.Author.Needs.{needs}
+use Rattle.worked.proofs.cycles.first_cycles.Statement.{statement}
+use Rattle.worked.proofs.cycles.first_cycles.Tie as tie
+
+abbrev Inv-loop : tie.InvT-loop
+Inv-loop states core longest units n least₀ i₀ least i = (i ≤ n) × (n * 3 ≤ length states)
+
+abbrev μ-loop : tie.MeasureT-loop
+μ-loop states core longest units n least₀ i₀ least i = n - i
+
+pub first-cycles-spec : {M : Type 1} → statement M
+first-cycles-spec = tie.close (tie.spec Inv-loop μ-loop (λ c κs. search needs) (λ c. search needs) (λ c. search needs) (λ c. search needs) (λ c. search needs) (λ c. search needs) (λ c. search needs) (λ c κs. search needs) (λ c. search needs) (λ c. search needs) (λ c. search needs) (λ c. search needs))

@@ -1,0 +1,15 @@
+-- `units_above_cycles` is safe and ends: each turn passes one state, and a state's three words lie within the states. Assumes nothing.
+use Prim.Native.Nat.{_≤_, _*_, _-_}
+use lib.ListN.{length}
+use borrow.Author.Needs.{needs}
+use Rattle.worked.proofs.cycles.units_above_cycles.Statement.{statement}
+use Rattle.worked.proofs.cycles.units_above_cycles.Tie as tie
+
+abbrev Inv-loop : tie.InvT-loop
+Inv-loop states core longest budget n units₀ i₀ units i = (i ≤ n) × (n * 3 ≤ length states)
+
+abbrev μ-loop : tie.MeasureT-loop
+μ-loop states core longest budget n units₀ i₀ units i = n - i
+
+pub units-above-cycles-spec : {M : Type 1} → statement M
+units-above-cycles-spec = tie.close (tie.spec Inv-loop μ-loop (λ c. search needs) (λ c. search needs) (λ c. search needs) (λ c. search needs) (λ c. search needs) (λ c κs. search needs) (λ c. search needs) (λ c. search needs) (λ c. search needs) (λ c. search needs) (λ c κs. search needs) (λ c κs. search needs) (λ c. search needs) (λ c. search needs) (λ c. search needs) (λ c. search needs))
