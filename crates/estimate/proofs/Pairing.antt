@@ -21,11 +21,10 @@ use Rattle.rules.proofs.Join.{length-after}
 use Rattle.rules.proofs.Table.{rising-is, rising-so, rising-add, length-add-all, add-append}
 use Rattle.estimate.specs.declared.join.Front.{Front}
 use Rattle.words.specs.Tables.{tableOf}
-use Rattle.estimate.specs.Placing.{Added}
 use Rattle.estimate.specs.Rooms.{InScratch}
 use Rattle.estimate.specs.Pairing.{frontAt, frontAfter}
 use Rattle.words.proofs.Tables.{fits-table}
-use Rattle.estimate.proofs.Scratch.{stretch-kept, stretch-long, partFrom, part-table, part-long, backFrom, back-long, back-slots, back-scratch}
+use Rattle.estimate.proofs.Scratch.{stretch-kept, stretch-long}
 
 -- ---- the front that is read
 
@@ -274,27 +273,24 @@ module _ {left m right k : ℕ} {ws vs : List ℕ} {n : ℕ} {a b : Front} (g : 
     in-right = omega (arith, rights)
 
     -- there is room for it, and what is there is in order
-    pub room-for-one : (n * 3 + 3 ≤ length (partFrom 12288 vs)) × (rising (take n (tableOf (partFrom 12288 vs))) ≡ true)
-    room-for-one = (
-      omega (arith, g .long, part-long vs 4096, lefts, rights, few-yet (g .so-far) in-left in-right),
-      ap (λ (X : List State). rising (take n X)) (part-table vs 4096) ∙ g .so-far .rises,
-    )
+    pub room-for-one : (12288 + n * 3 + 3 ≤ length vs) × (rising (take n (drop 4096 (tableOf vs))) ≡ true)
+    room-for-one = (omega (arith, g .long, lefts, rights, few-yet (g .so-far) in-left in-right), g .so-far .rises)
 
-    module _ (ys : List ℕ) (same : length ys ≡ length (partFrom 12288 vs)) (u : ℕ) (e : u ≡ min (unitsOf (a .state)) (unitsOf (b .state))) where
-      slots-fit : 4096 * 3 ≤ length vs
-      slots-fit = omega (arith, g .long)
-
+    -- the words vs′ afterwards, with the pair's state s added in the scratch
+    module _ (s : State) (n′ : ℕ) (vs′ : List ℕ) (same : length vs′ ≡ length vs)
+        (added : InScratch (add (s ∷ []) (take n (drop 4096 (tableOf vs)))) n′ (tableOf vs) (tableOf vs′))
+        (u : ℕ) (e : u ≡ min (unitsOf (a .state)) (unitsOf (b .state))) where
       -- the tables still stand there, and no more units are used than are left
-      pub left-stays : ((left + m) * 3 ≤ length (backFrom 12288 vs ys)) × (a .at < m) × (u ≤ unitsOf (a .state))
-      left-stays = (omega (arith, g .long, back-long vs 4096 ys slots-fit same), l, omega arith)
+      pub left-stays : ((left + m) * 3 ≤ length vs′) × (a .at < m) × (u ≤ unitsOf (a .state))
+      left-stays = (omega (arith, g .long, same), l, omega arith)
 
-      pub right-stays : ((right + k) * 3 ≤ length (backFrom 12288 vs ys)) × (b .at < k) × (u ≤ unitsOf (b .state))
-      right-stays = (omega (arith, g .long, back-long vs 4096 ys slots-fit same), r, omega arith)
+      pub right-stays : ((right + k) * 3 ≤ length vs′) × (b .at < k) × (u ≤ unitsOf (b .state))
+      right-stays = (omega (arith, g .long, same), r, omega arith)
 
-      module _ (a′ b′ : Front) (is-left : a′ ≡ frontAfter (statesAt left m (backFrom 12288 vs ys)) u a) (is-right : b′ ≡ frontAfter (statesAt right k (backFrom 12288 vs ys)) u b) where
+      module _ (a′ b′ : Front) (is-left : a′ ≡ frontAfter (statesAt left m vs′) u a) (is-right : b′ ≡ frontAfter (statesAt right k vs′) u b) where
         -- the fronts of the tables as they were
-        slots-then : take 4096 (tableOf (backFrom 12288 vs ys)) ≡ take 4096 (tableOf ws)
-        slots-then = back-slots vs 4096 ys slots-fit ∙ g .slots
+        slots-then : take 4096 (tableOf vs′) ≡ take 4096 (tableOf ws)
+        slots-then = added .slots ∙ g .slots
 
         left-front : a′ ≡ frontAfter (statesAt left m ws) u a
         left-front = is-left ∙ ap (λ (S : List State). frontAfter S u a) (stretch-kept left m 4096 (tableOf ws) _ (omega arith) slots-then)
@@ -305,16 +301,10 @@ module _ {left m right k : ℕ} {ws vs : List ℕ} {n : ℕ} {a b : Front} (g : 
         pub underway-falls : statesLeft a′ b′ (statesAt left m ws) (statesAt right k ws) < statesLeft a b (statesAt left m ws) (statesAt right k ws)
         underway-falls = fewer-left (g .so-far) in-left in-right a′ b′ u e left-front right-front
 
-        pub underway-more : (s : State) (n′ : ℕ) → s ≡ meet (a .state) (b .state) u → Added (s ∷ []) n n′ (tableOf (partFrom 12288 vs)) (tableOf ys)
-            → Underway left m right k ws (backFrom 12288 vs ys) n′ a′ b′
-        underway-more s n′ is added =
+        pub underway-more : s ≡ meet (a .state) (b .state) u → Underway left m right k ws vs′ n′ a′ b′
+        underway-more is =
             record {
-              long = back-long vs 4096 ys slots-fit same ∙ g .long;
+              long = same ∙ g .long;
               slots = slots-then;
-              so-far = so-far-more (g .so-far) in-left in-right a′ b′ u e left-front right-front s n′ _ is
-                  (added .count ∙ ap length (sym (added .table) ∙ sym behind))
-                  (behind ∙ added .table ∙ ap (λ (X : List State). add (s ∷ []) (take n X)) (part-table vs 4096));
+              so-far = so-far-more (g .so-far) in-left in-right a′ b′ u e left-front right-front s n′ _ is (added .count ∙ ap length (sym (added .table))) (added .table);
             }
-          where
-            behind : take n′ (drop 4096 (tableOf (backFrom 12288 vs ys))) ≡ take n′ (tableOf ys)
-            behind = ap (take n′) (back-scratch vs 4096 ys slots-fit)

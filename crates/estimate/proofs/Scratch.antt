@@ -67,28 +67,32 @@ module _ (ws : List ℕ) (base : ℕ) where
 
 -- ---- what the scratch holds
 
+-- what is added to the lent part is added to what the scratch holds
+pub lent-added : (S : List State) (n r : ℕ) (ws ys : List ℕ) → 12288 ≤ length ws → Added S n r (tableOf (partFrom 12288 ws)) (tableOf ys)
+    → InScratch (add S (take n (drop 4096 (tableOf ws)))) r (tableOf ws) (tableOf (backFrom 12288 ws ys))
+lent-added S n r ws ys l a =
+    record {
+      count = a .count ∙ ap length is;
+      table = ap (take r) (back-scratch ws 4096 ys l) ∙ a .table ∙ is;
+      slots = back-slots ws 4096 ys l;
+    }
+  where
+    is : add S (take n (tableOf (partFrom 12288 ws))) ≡ add S (take n (drop 4096 (tableOf ws)))
+    is = ap (λ (T : List State). add S (take n T)) (part-table ws 4096)
+
 pub scratch-empty : (T : List State) → InScratch [] 0 T T
 scratch-empty T = record { count = refl; table = refl; slots = refl }
 
 module _ (X : List State) (n : ℕ) (T₀ T : List State) (g : InScratch X n T₀ T) where
-  -- what is added to the lent part is added to it
-  pub scratch-added : (S : List State) (r : ℕ) (P P′ T′ : List State) → 4096 ≤ length T → P ≡ drop 4096 T → Added S n r P P′
-      → T′ ≡ take 4096 T ++ P′ → InScratch (add S X) r T₀ T′
-  scratch-added S r P P′ T′ long p a q =
-      record {
-        count = a .count ∙ ap length is;
-        table = ap (λ (U : List State). take r (drop 4096 U)) q ∙ ap (take r) (drop-at (take 4096 T) P′ 4096 front) ∙ a .table ∙ is;
-        slots = ap (take 4096) q ∙ take-at (take 4096 T) P′ 4096 front ∙ g .slots;
-      }
+  -- more is added to it
+  pub scratch-more : (S : List State) (r : ℕ) (T′ : List State) → InScratch (add S (take n (drop 4096 T))) r T T′ → InScratch (add S X) r T₀ T′
+  scratch-more S r T′ h = record { count = h .count ∙ ap length is; table = h .table ∙ is; slots = h .slots ∙ g .slots }
     where
-      is : add S (take n P) ≡ add S X
-      is = ap (λ (U : List State). add S U) (ap (take n) p ∙ g .table)
+      is : add S (take n (drop 4096 T)) ≡ add S X
+      is = ap (λ (U : List State). add S U) (g .table)
 
-      front : length (take 4096 T) ≡ 4096
-      front = length-take-le 4096 T long
-
-  pub scratch-rising : rising X ≡ true → (P : List State) → P ≡ drop 4096 T → rising (take n P) ≡ true
-  scratch-rising h P p = rw (p, g .table) h
+  pub scratch-rising : rising X ≡ true → rising (take n (drop 4096 T)) ≡ true
+  scratch-rising h = rw (g .table) h
 
   -- the slots read as they did: the state at place i of the m states at place `from`
   pub slot-reads : (from m i : ℕ) (s : State) → i < m → from + m ≤ 4096 → s ≡ stateAt T (from + i) → s ≡ stateAt (take m (drop from T₀)) i

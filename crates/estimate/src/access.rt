@@ -16,7 +16,7 @@ ghost use Prim.Native.Nat.{_+_, _*_, _≤_, _<_};
 ghost use lib.ListN.{length, take, drop};
 ghost use Rattle.rules.specs.Units.{whole, more};
 ghost use Rattle.rules.specs.Contents.{without, held};
-ghost use Rattle.rules.specs.Table.{rising};
+ghost use Rattle.rules.specs.Table.{rising, add as addOf};
 ghost use Rattle.rules.specs.Step.{missed as missedOf, miss as missOf, successors, leftOver, access, accessAside};
 ghost use Rattle.rules.specs.Shape.{Every, Listed};
 ghost use Rattle.words.specs.Tables.{tableOf};
@@ -99,6 +99,14 @@ pub(crate) fn follow(words: &mut [u64], n: usize, s: State, x: Place, ways: u64)
     }
 }
 
+// The states that follow `s` added to the first `n` states of the scratch; how many states it then has.
+pub(crate) fn follow_to_scratch(work: &mut [u64], n: usize, s: State, x: Place, ways: u64) -> usize
+    requires { ⌜ Listed 16 x × Workable ways s × (ways ≤ 16) × (12288 + (n + 17) * 3 ≤ length (now work)) × (rising (take n (drop 4096 (tableOf (now work)))) ≡ true) ⌝ }
+    ensures { λ r. ⌜ InScratch (addOf (successors ways x s) (take n (drop 4096 (tableOf (now (work .entry)))))) r (tableOf (now (work .entry))) (tableOf (now (work .exit))) ⌝ }
+{
+    follow(&mut work[12288..], n, s, x, ways)
+}
+
 // What of `s` is set aside.
 pub(crate) fn left_over(s: State, x: Place, ways: u64) -> Units
     requires { ⌜ Listed 16 x ⌝ }
@@ -134,7 +142,7 @@ pub(crate) fn gather(
     let mut i: usize = 0;
     while i < m {
         let s = load(work, from + i);
-        n = follow(&mut work[12288..], n, s, x, ways);
+        n = follow_to_scratch(work, n, s, x, ways);
         count = count.add(left_over(s, x, ways));
         i += 1;
     }

@@ -5,10 +5,12 @@ use crate::states::meet;
 use rules::State;
 use rules::Units;
 ghost use mathlib.Core.Path.{_≡_};
+ghost use mathlib.Core.Bool.{true};
+ghost use mathlib.Core.List.{[], _∷_};
 ghost use Prim.Native.Nat.{_+_, _*_, _≤_, _<_, min};
 ghost use lib.ListN.{length, take, drop};
 ghost use Rattle.rules.specs.Join.{join};
-ghost use Rattle.rules.specs.Table.{unitsOf};
+ghost use Rattle.rules.specs.Table.{unitsOf, rising, add as addOf};
 ghost use Rattle.words.specs.Tables.{tableOf};
 ghost use Rattle.estimate.specs.Rooms.{InScratch};
 ghost use Rattle.estimate.specs.Pairing.{frontAt, frontAfter};
@@ -70,8 +72,16 @@ pub(crate) fn after(words: &[u64], from: usize, m: usize, front: Front, used: Un
     }
 }
 
-// The pairs of the `m` states at place `left` and the `k` states at place `right`, into an empty table at place 4,096; how many
-// states it then has.
+// `s` added to the first `n` states of the scratch; how many states it then has.
+pub(crate) fn add_to_scratch(work: &mut [u64], n: usize, s: State) -> usize
+    requires { ⌜ (12288 + n * 3 + 3 ≤ length (now work)) × (rising (take n (drop 4096 (tableOf (now work)))) ≡ true) ⌝ }
+    ensures { λ r. ⌜ InScratch (addOf (s ∷ []) (take n (drop 4096 (tableOf (now (work .entry)))))) r (tableOf (now (work .entry))) (tableOf (now (work .exit))) ⌝ }
+{
+    add(&mut work[12288..], n, s)
+}
+
+// The pairs of the `m` states at place `left` and the `k` states at place `right`, into the scratch, which is empty at first; how
+// many states it then has.
 pub(crate) fn pair_up(work: &mut [u64], left: usize, m: usize, right: usize, k: usize) -> usize
     requires { ⌜ (m ≤ 64) × (k ≤ 64) × (left + m ≤ 4096) × (right + k ≤ 4096) × (15552 ≤ length (now work)) ⌝ }
     ensures { λ r. ⌜ InScratch (join (take m (drop left (tableOf (now (work .entry))))) (take k (drop right (tableOf (now (work .entry)))))) r (tableOf (now (work .entry))) (tableOf (now (work .exit))) ⌝ }
@@ -89,7 +99,7 @@ pub(crate) fn pair_up(work: &mut [u64], left: usize, m: usize, right: usize, k: 
         let s = a.state;
         let t = b.state;
         let used = smaller(s.units, t.units);
-        n = add(&mut work[12288..], n, meet(s, t, used));
+        n = add_to_scratch(work, n, meet(s, t, used));
         a = after(work, left, m, a, used);
         b = after(work, right, k, b, used);
     }

@@ -8,7 +8,7 @@ use crate::states::Tally;
 use rules::Units;
 ghost use mathlib.Core.Path.{_≡_};
 ghost use mathlib.Core.Bool.{true};
-ghost use Prim.Native.Nat.{_+_, _-_, _≤_};
+ghost use Prim.Native.Nat.{_+_, _*_, _-_, _≤_};
 ghost use lib.ListN.{length, take, drop};
 ghost use Rattle.rules.specs.Contents.{find};
 ghost use Rattle.rules.specs.Fold.{folded};
@@ -19,12 +19,20 @@ ghost use Rattle.words.specs.Tables.{tableOf};
 ghost use Rattle.estimate.specs.Rooms.{InPlace};
 ghost use Rattle.estimate.specs.Working.{workAt, Ready};
 
+// The `n` states of the scratch folded to at most `limit`.
+pub(crate) fn fold_scratch(work: &mut [u64], n: usize, limit: usize, aside: Units) -> Tally
+    requires { ⌜ (12288 + n * 3 ≤ length (now work)) × (1 ≤ limit) × (rising (take n (drop 4096 (tableOf (now work)))) ≡ true) ⌝ }
+    ensures { λ r. ⌜ InPlace (folded limit (record { table = take n (drop 4096 (tableOf (now (work .entry)))); aside = aside .0 })) 4096 (r .states) (r .aside .0) (tableOf (now (work .entry))) (tableOf (now (work .exit))) ⌝ }
+{
+    fold_down(&mut work[12288..], n, limit, aside)
+}
+
 // The `n` states of the scratch folded to at most `limit`, and put at place `at`.
 pub(crate) fn settle(work: &mut [u64], at: usize, n: usize, aside: Units, limit: usize) -> Tally
     requires { ⌜ (15552 ≤ length (now work)) × (at + 64 ≤ 4096) × (n ≤ 1088) × (1 ≤ limit) × (limit ≤ 64) × (rising (take n (drop 4096 (tableOf (now work)))) ≡ true) ⌝ }
     ensures { λ r. ⌜ InPlace (folded limit (record { table = take n (drop 4096 (tableOf (now (work .entry)))); aside = aside .0 })) at (r .states) (r .aside .0) (tableOf (now (work .entry))) (tableOf (now (work .exit))) ⌝ }
 {
-    let folded = fold_down(&mut work[12288..], n, limit, aside);
+    let folded = fold_scratch(work, n, limit, aside);
     copy(work, 4096, at, folded.states);
     folded
 }

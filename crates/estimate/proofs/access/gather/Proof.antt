@@ -4,11 +4,11 @@ use mathlib.Core.Path.{_≡_, refl, _∙_}
 use Prim.Native.Nat.{_-_, _*_, _≤_}
 use native.Mathlib.Omega.{arith}
 use denote.Ref.{now}
-use lib.ListN.{length, take, drop, length-append, length-take, length-drop}
+use lib.ListN.{length, take, drop, length-take}
 use Rattle.words.specs.Tables.{tableOf}
 use Rattle.estimate.specs.Rooms.{InScratch}
 use Rattle.words.proofs.Tables.{fits-table}
-use Rattle.estimate.proofs.Scratch.{part-table, back-table, scratch-empty, scratch-added, scratch-rising, slot-reads, stretch-long}
+use Rattle.estimate.proofs.Scratch.{scratch-empty, scratch-more, scratch-rising, slot-reads, stretch-long}
 use Rattle.rules.proofs.Splitting.{units-added}
 use Rattle.estimate.proofs.Following.{gathered, gathered-none, gathered-rising, gathered-next, gathered-room, gathered-all, asideTo, aside-start, aside-next, aside-all, workable-at}
 use borrow.Author.Needs.{needs}
@@ -28,8 +28,8 @@ loop-holds : tie.Need-loop-holds Inv-loop μ-loop
 loop-holds c = let a = c .before .args in
     (search needs, refl, rw (gathered-none (a .ways) (a .x) _) (scratch-empty (tableOf (now (a .work)))), aside-start (a .ways) (a .x) (take (a .m) (drop (a .from) (tableOf (now (a .work))))) _ (c .before .pre .5))
 
-follow-requires : tie.Need-follow-requires Inv-loop μ-loop
-follow-requires c κs = let b = c .before .before .before .before in
+follow-to-scratch-requires : tie.Need-follow-to-scratch-requires Inv-loop μ-loop
+follow-to-scratch-requires c κs = let b = c .before .before .before .before in
     let l = b .loop in
     let p = b .before .before .pre in
     let a = b .before .before .args in
@@ -39,8 +39,8 @@ follow-requires c κs = let b = c .before .before .before .before in
       p .0,
       rw read (workable-at (a .ways) S (p .6) (l .i)),
       p .1,
-      simp (length-take, length-drop) (omega arith),
-      scratch-rising _ _ _ _ (l .inv .2) (gathered-rising (a .ways) (a .x) S (l .i)) _ (part-table (l .work) 4096),
+      omega arith,
+      scratch-rising _ _ _ _ (l .inv .2) (gathered-rising (a .ways) (a .x) S (l .i)),
     )
 
 loop-again : tie.Need-loop-again Inv-loop μ-loop
@@ -50,11 +50,12 @@ loop-again c = let b = c .before .before .before .before .before .before .before
     let a = b .before .before .args in
     let S = take (a .m) (drop (a .from) (tableOf (now (a .work)))) in
     let long = stretch-long (a .from) (a .m) (tableOf (now (a .work))) (omega (arith, fits-table (now (a .work)) 4096 (omega arith))) in
+    let followed = c .before .before .before .before .follow-to-scratch in
     let read = slot-reads _ _ _ _ (l .inv .2) (a .from) (a .m) (l .i) _ (omega arith) (p .3) (c .before .before .before .before .before .before .load .ensures) in (
       search needs,
-      simp (length-append, length-take, length-drop) (omega (arith, simp (length-take, length-drop) at (c .before .before .before .before .follow .kept .0))),
+      followed .kept .0 ∙ l .inv .1,
       rw (← gathered-next (a .ways) (a .x) S (l .i) (c .before .before .before .before .before .before .load .result) (omega arith) read)
-          (scratch-added _ _ _ _ (l .inv .2) _ _ _ _ _ (fits-table (l .work) 4096 (omega arith)) (part-table (l .work) 4096) (c .before .before .before .before .follow .ensures) (back-table (l .work) 4096 _ (omega arith))),
+          (scratch-more _ _ _ _ (l .inv .2) _ _ _ (followed .ensures)),
       aside-next (a .ways) (a .x) S _ (l .i) _ _ _ _ (omega arith) read (l .inv .3) (c .before .left-over .ensures) (units-added _ _ _ (c .add .ensures)),
     )
 
@@ -75,10 +76,7 @@ gather-spec =
     loop-holds
     (λ c. search needs)
     (λ c κs. search needs)
-    (λ c. search needs)
-    (λ c. search needs)
-    (λ c. search needs)
-    follow-requires
+    follow-to-scratch-requires
     (λ c κs. search needs)
     (λ c κs. search needs)
     (λ c. search needs)

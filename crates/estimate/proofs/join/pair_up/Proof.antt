@@ -20,8 +20,8 @@ returns c = let l = c .before .before in underway-left (l .loop .inv) (l .before
 returns-2 : tie.Need-returns-2 Inv-loop μ-loop
 returns-2 c = let l = c .before .before .before .before in underway-right (l .loop .inv) (l .before .before .before .before .before .before .pre) (c .if2 .taken)
 
-add-requires : tie.Need-add-requires Inv-loop μ-loop
-add-requires c κs = let j = c .before .before .before .before .before in
+add-to-scratch-requires : tie.Need-add-to-scratch-requires Inv-loop μ-loop
+add-to-scratch-requires c κs = let j = c .before .before .before .before .before in
     let l = j .before .before .before .before in
     room-for-one (l .loop .inv) (l .before .before .before .before .before .before .pre) (j .before .before .if1 .left) (j .if2 .left)
 
@@ -30,28 +30,29 @@ after-requires c κs = let d = c .before .before .before in
     let j = d .before .before .before .before .before .before in
     let l = j .before .before .before .before in
     left-stays (l .loop .inv) (l .before .before .before .before .before .before .pre) (j .before .before .if1 .left) (j .if2 .left)
-    (d .add .last .0) (d .add .kept .0) _ (d .before .before .before .smaller .ensures)
+    _ _ _ (d .add-to-scratch .kept .0) (d .add-to-scratch .ensures) _ (d .before .before .before .smaller .ensures)
 
 after-requires-2 : tie.Need-after-requires-2 Inv-loop μ-loop
 after-requires-2 c κs = let d = c .before .before .before .before .before in
     let j = d .before .before .before .before .before .before in
     let l = j .before .before .before .before in
     right-stays (l .loop .inv) (l .before .before .before .before .before .before .pre) (j .before .before .if1 .left) (j .if2 .left)
-    (d .add .last .0) (d .add .kept .0) _ (d .before .before .before .smaller .ensures)
+    _ _ _ (d .add-to-scratch .kept .0) (d .add-to-scratch .ensures) _ (d .before .before .before .smaller .ensures)
 
 loop-less : tie.Need-loop-less Inv-loop μ-loop
 loop-less c = let d = c .before .before .before .before .before .before in
     let j = d .before .before .before .before .before .before in
     let l = j .before .before .before .before in
     underway-falls (l .loop .inv) (l .before .before .before .before .before .before .pre) (j .before .before .if1 .left) (j .if2 .left)
-    (d .add .last .0) (d .add .kept .0) _ (d .before .before .before .smaller .ensures) _ _ (c .before .before .after .ensures) (c .after2 .ensures)
+    _ _ _ (d .add-to-scratch .kept .0) (d .add-to-scratch .ensures) _ (d .before .before .before .smaller .ensures) _ _ (c .before .before .after .ensures) (c .after2 .ensures)
 
 loop-again : tie.Need-loop-again Inv-loop μ-loop
 loop-again c = let d = c .before .before .before .before .before .before in
     let j = d .before .before .before .before .before .before in
     let l = j .before .before .before .before in
     underway-more (l .loop .inv) (l .before .before .before .before .before .before .pre) (j .before .before .if1 .left) (j .if2 .left)
-    (d .add .last .0) (d .add .kept .0) _ (d .before .before .before .smaller .ensures) _ _ (c .before .before .after .ensures) (c .after2 .ensures) _ _ (d .before .meet .ensures) (d .add .ensures)
+    _ _ _ (d .add-to-scratch .kept .0) (d .add-to-scratch .ensures) _ (d .before .before .before .smaller .ensures) _ _ (c .before .before .after .ensures) (c .after2 .ensures)
+    (d .before .meet .ensures)
 
 pub pair-up-spec : {M : Type 1} → statement M
 pair-up-spec =
@@ -67,11 +68,8 @@ pair-up-spec =
     (λ c. search needs)
     returns-2
     (λ c κs. search needs)
-    (λ c. search needs)
-    (λ c. search needs)
-    (λ c. search needs)
     (λ c κs. search needs)
-    add-requires
+    add-to-scratch-requires
     after-requires
     after-requires-2
     loop-less
