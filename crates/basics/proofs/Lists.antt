@@ -1,11 +1,12 @@
--- Through a list from the front: what is computed of the rest at place i, w, is computed of the next element and the rest behind it.
-use mathlib.Core.Path.{_≡_}
-use mathlib.Core.List.{List, [], _∷_}
+-- Lists walked from the front, and lists of zeros.
+use mathlib.Core.Path.{_≡_, _∙_}
+use mathlib.Core.List.{List, [], _∷_, _++_, append-nil}
 use Prim.Native.Nat.{ℕ, _+_, _≤_, _<_}
 use native.Mathlib.Numerals.{add-one}
-use lib.ListN.{length, getD, drop, drop-of-length-le}
-use lib.Seq.{drop-cons}
+use lib.ListN.{length, getD, drop, replicate, drop-of-length-le}
+use lib.Seq.{drop-cons, drop-length}
 
+-- what is computed of the rest at place i, w, is computed of the next element and the rest behind it
 module _ {A B : Type 0} (f : List B → A) (xs : List B) (i : ℕ) (w : A) (rest : f (drop i xs) ≡ w) where
   -- z stands for what is past the end
   pub list-next : (z : B) → i < length xs → f (getD xs i z ∷ drop (i + 1) xs) ≡ w
@@ -13,3 +14,7 @@ module _ {A B : Type 0} (f : List B → A) (xs : List B) (i : ℕ) (w : A) (rest
 
   pub list-end : length xs ≤ i → f [] ≡ w
   list-end h = rw (drop-of-length-le xs h) at rest
+
+-- zeros up to the end are all there is
+pub all-filled : (xs ws : List ℕ) (i : ℕ) → i ≡ length xs → ws ≡ replicate i 0 ++ drop i xs → ws ≡ replicate (length xs) 0
+all-filled xs ws i e p = p ∙ rw (e, drop-length xs, append-nil)

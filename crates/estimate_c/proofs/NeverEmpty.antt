@@ -12,7 +12,7 @@ use Rattle.rules.specs.Answers.{numberOf}
 use Rattle.rules.specs.Input.{Input}
 use Rattle.rules.specs.Refusals.{verdict}
 use Rattle.text.specs.Parts.{complete, inputFrom}
-use Rattle.text.specs.Reading.{wellFormed, numbersIn}
+use Rattle.reading.specs.Reading.{wellFormed, numbersIn}
 use Rattle.text.specs.Writing.{refusedLine, headWords}
 use Rattle.text.specs.Printed.{told, ofInput, ofNumbers, ofText}
 use Rattle.text.specs.Curve.{curve, curveOfNumbers, curveOfText}

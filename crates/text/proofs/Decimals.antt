@@ -12,9 +12,9 @@ use lib.ListN.{length, length-append}
 use borrow.Author.Tests.{ltb-true, ltb-false, lt-ltb, le-ltb, le-leb}
 use Rattle.basics.proofs.Bools.{both}
 use Rattle.io.specs.Digits.{glyph, digits, Fewest}
-use Rattle.text.specs.Reading.{allDigits, valueFrom, isNumber}
+use Rattle.reading.specs.Reading.{allDigits, valueFrom, isNumber}
 use Rattle.text.specs.Writing.{decimalFrom, decimal}
-use Rattle.text.proofs.Appended.{digits-append, value-append}
+use Rattle.reading.proofs.Appended.{digits-append, value-append}
 
 -- the last digit of n
 abbrev last : ℕ → List ℕ

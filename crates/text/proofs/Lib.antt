@@ -1,9 +1,3 @@
--- One word behind another
-pub mod Appended
--- One byte of a text
-pub mod Steps
--- The words of a text, read byte by byte
-pub mod Scanning
 -- Where the parts of a list of numbers end
 pub mod Places
 -- Numbers in decimal

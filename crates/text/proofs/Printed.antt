@@ -1,6 +1,6 @@
 -- What is printed, case by case: for a list of numbers, which is not complete, refused by the graph call, or accepted; and for a text, malformed or
 -- read.
-use mathlib.Core.Path.{_≡_, refl, sym, ap, ap₂, subst, _∙_}
+use mathlib.Core.Path.{_≡_, refl, sym, ap, ap₂, _∙_}
 use mathlib.Core.Bool.{true, false, _&&_}
 use mathlib.Core.List.{List, [], _++_}
 use Prim.Native.Nat.{ℕ, _≤_}
@@ -31,10 +31,11 @@ use Rattle.rules.proofs.Refusals.{numbered, checked}
 use Rattle.rules.proofs.Questions.{finished-is-table}
 use Rattle.rules.proofs.Longest.{longest-most, finished-within}
 use Rattle.words.specs.Tables.{tableOf}
-use Rattle.text.specs.declared.reading.Read.{Read}
-use Rattle.text.specs.declared.reading.Read.the-variants.{Numbers, Malformed}
-use Rattle.text.specs.Reading.{valueFrom, wordsFrom, allNumbers, wellFormed, numbersIn}
-use Rattle.text.specs.Found.{Found}
+use Rattle.reading.specs.declared.Read.{Read}
+use Rattle.reading.specs.declared.Read.the-variants.{Numbers, Nothing}
+use Rattle.reading.specs.Reading.{valueFrom, wordsFrom, allNumbers, wellFormed, numbersIn}
+use Rattle.reading.specs.Call.{afterReading}
+use Rattle.reading.proofs.Calls.{malformed, well-formed, how-many, numbers-there}
 use Rattle.text.specs.Parts.{complete, inputFrom}
 use Rattle.text.specs.Places.{Ends}
 use Rattle.text.specs.Writing.{refusedLine, headLine, linesBelow, curveLines}
@@ -138,15 +139,12 @@ module _ (ns : List ℕ) (ok : complete ns ≡ true) (r : Outcome) (result : Lis
 
 -- ---- for a text
 
-module _ (text room : List ℕ) (r : Read) (found : Found text r room) where
-  pub text-malformed : (of : Input → List ℕ) → r ≡ Malformed → refusedLine 9 ≡ ofText of text
+module _ (text room : List ℕ) (long : 16384 ≤ length room) (r : Read) (room′ : List ℕ) (left : record { answer = r; room = room′ } ≡ afterReading text room) where
+  pub text-malformed : (of : Input → List ℕ) → r ≡ Nothing → refusedLine 9 ≡ ofText of text
   unfolding ofText
-  text-malformed of e = rw (subst (λ (q : Read). Found text q room) e found)
+  text-malformed of e = rw (malformed text room long r room′ left e)
 
   module _ (n : ℕ) (e : r ≡ Numbers n) where
-    abbrev found-numbers : Found text (Numbers n) room
-    found-numbers = subst (λ (q : Read). Found text q room) e found
-
     -- as many as there are words, 16,384 at most
     pub numbers-few : n ≤ 16384
     unfolding wellFormed numbersIn
@@ -154,14 +152,14 @@ module _ (text room : List ℕ) (r : Read) (found : Found text r room) where
         let ws = wordsFrom [] text in
         omega (
           arith,
-          found-numbers .1,
+          how-many text room long r room′ left n e,
           length-map ws (valueFrom 0),
-          leb-true (length ws) 16384 (and-right (leb (length text) 65536 && allNumbers ws) (leb (length ws) 16384) (found-numbers .0)),
+          leb-true (length ws) 16384 (and-right (leb (length text) 65536 && allNumbers ws) (leb (length ws) 16384) (well-formed text room long r room′ left n e)),
         )
 
-    pub numbers-long : n ≡ length (take n room)
-    numbers-long = found-numbers .1 ∙ sym (ap length (found-numbers .2))
+    pub numbers-long : n ≡ length (take n room′)
+    numbers-long = how-many text room long r room′ left n e ∙ sym (ap length (numbers-there text room long r room′ left n e))
 
-    pub text-read : (of : Input → List ℕ) → ofNumbers of (take n room) ≡ ofText of text
+    pub text-read : (of : Input → List ℕ) → ofNumbers of (take n room′) ≡ ofText of text
     unfolding ofText
-    text-read of = rw (found-numbers .0) (ap (ofNumbers of) (found-numbers .2))
+    text-read of = rw (well-formed text room long r room′ left n e) (ap (ofNumbers of) (numbers-there text room long r room′ left n e))

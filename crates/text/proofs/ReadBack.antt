@@ -17,7 +17,7 @@ use Rattle.rules.specs.Shape.{Every}
 use Rattle.rules.specs.Questions.{isTable, unitsAt, largest, above, countsBelow, spread}
 use Rattle.rules.proofs.Lists.{every-append}
 use Rattle.rules.proofs.Questions.{units-most, above-most, table-total, table-largest}
-use Rattle.text.specs.Reading.{isGap, isDigit, allDigits, valueFrom, isNumber, ended, wordsFrom, allNumbers, wellFormed, numbersIn}
+use Rattle.reading.specs.Reading.{isGap, isDigit, allDigits, valueFrom, isNumber, ended, wordsFrom, allNumbers, wellFormed, numbersIn}
 use Rattle.text.specs.Writing.{decimal, countLine, linesBelow, curveLine, curveLines}
 use Rattle.text.specs.Numbers.{listed, triples, seconds}
 use Rattle.text.proofs.Decimals.{decimal-digits, decimal-value, decimal-some, decimal-number}

@@ -1,9 +1,3 @@
--- Well-formed text, and the numbers in it
-pub mod Reading
--- reading byte by byte
-pub mod Standing
--- what is found in a text
-pub mod Found
 -- What the numbers mean, in order
 pub mod Parts
 -- where the parts end

@@ -1,9 +1,9 @@
 // The programs' text: from the bytes that they read to the bytes that they write, in rooms that the caller lends.
-use crate::reading::clear_numbers;
 use crate::working::Wanted;
 use crate::working::has_room;
 use crate::working::put_numbers;
 use crate::working::put_text;
+use reading::clear_numbers;
 use words::clear;
 ghost use mathlib.Core.Path.{_≡_};
 ghost use Rattle.text.specs.Rooms.{afterNumbers, afterText, afterCyclesOfNumbers, afterCyclesOfText};
@@ -11,7 +11,6 @@ ghost use Rattle.text.specs.Wanted.{wantedAfter, wantedAfterText};
 
 mod cores;
 mod parts;
-mod reading;
 mod working;
 mod writing;
 

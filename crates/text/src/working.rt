@@ -1,8 +1,6 @@
 // From the numbers to the text: the graph call, the questions, and the lines that they give.
 use crate::cores::put_cores;
 use crate::parts::end_of;
-use crate::reading::Read;
-use crate::reading::read_numbers;
 use crate::writing::put_head;
 use crate::writing::put_lines;
 use crate::writing::put_longest;
@@ -10,6 +8,8 @@ use crate::writing::put_refused;
 use estimate::analyse;
 use longest::longest_path;
 use questions::spread_in;
+use reading::Read;
+use reading::read_numbers;
 use rules::Count;
 use rules::Length;
 use rules::Outcome;
@@ -170,7 +170,7 @@ pub(crate) fn put_text(
     ensures { λ r. ⌜ Put (ofText (wantedText wanted) (now (text .entry))) 0 r (now (output .entry)) (now (output .exit)) ⌝ }
 {
     match read_numbers(text, numbers) {
-        Read::Malformed => put_refused(output, 9),
+        Read::Nothing => put_refused(output, 9),
         Read::Numbers(n) => put_numbers(wanted, &numbers[..n], result, work, counts, output),
     }
 }

@@ -1,10 +1,10 @@
 -- Tables in lent words: how many states there are, the state at a place, a state stored, and the table of a part.
 use mathlib.Core.Path.{_≡_, refl, ap, _∙_}
-use mathlib.Core.List.{List, [], _∷_, _++_, append-nil}
+use mathlib.Core.List.{List, [], _∷_, _++_}
 use Prim.Native.Nat.{ℕ, zero, suc, _+_, _*_, _/_, _≤_, _<_}
 use native.Mathlib.Omega.{arith}
-use lib.ListN.{length, getD, set, take, drop, replicate, length-set}
-use lib.Seq.{drop-length, take-at}
+use lib.ListN.{length, getD, set, take, drop, length-set}
+use lib.Seq.{take-at}
 use Rattle.rules.specs.declared.State.{State}
 use Rattle.basics.proofs.Lists.{list-next, list-end}
 use Rattle.rules.specs.Table.{state, stateAt}
@@ -111,9 +111,3 @@ module _ {A : Type 0} (f : List State → A) (ws : List ℕ) (i : ℕ) (w : A) (
 
   pub state-end : length ws / 3 ≤ i → f [] ≡ w
   state-end h = list-end f (tableOf ws) i w rest (omega (arith, length-tableOf ws))
-
--- ---- zeros
-
--- zeros up to the end are all there is
-pub all-filled : (xs ws : List ℕ) (i : ℕ) → i ≡ length xs → ws ≡ replicate i 0 ++ drop i xs → ws ≡ replicate (length xs) 0
-all-filled xs ws i e p = p ∙ rw (e, drop-length xs, append-nil)

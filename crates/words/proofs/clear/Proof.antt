@@ -6,7 +6,7 @@ use native.Mathlib.Omega.{arith}
 use borrow.Author.Fill.{fill-none, fill-more}
 use denote.Ref.{now}
 use lib.ListN.{length, drop, replicate}
-use Rattle.words.proofs.Tables.{all-filled}
+use Rattle.basics.proofs.Lists.{all-filled}
 use borrow.Author.Needs.{needs}
 use Rattle.words.proofs.clear.Statement.{statement}
 use Rattle.words.proofs.clear.Tie as tie

@@ -12,17 +12,23 @@ put-refused-requires c κs = line-fits (c .before .before .before .before .befor
 
 numbers-within : tie.Need-slice-reshare-prefix-put-numbers
 numbers-within c =
-    let r = c .before .before .before .before .before .read-numbers in
-    omega (arith, numbers-few _ _ _ (r .ensures) _ (c .before .n .given .1), r .kept .1 .0)
+    let r = c .before .before .before .before .before in
+    omega (arith, numbers-few _ _ (r .before .before .before .before .before .before .before .before .pre .0) _ _ (r .read-numbers .ensures) _ (c .before .n .given .1), r .read-numbers .kept .1 .0)
 
 numbers-are : tie.Need-slice-aggregate-put-numbers
-numbers-are c = numbers-long _ _ _ (c .before .before .before .before .before .before .read-numbers .ensures) _ (c .before .before .n .given .1)
+numbers-are c =
+    let r = c .before .before .before .before .before .before in
+    numbers-long _ _ (r .before .before .before .before .before .before .before .before .pre .0) _ _ (r .read-numbers .ensures) _ (c .before .before .n .given .1)
 
 returns : tie.Need-returns
-returns c = put-is _ _ _ _ _ _ (c .before .before .put-refused .ensures) (text-malformed _ _ _ (c .before .before .before .before .before .before .before .before .read-numbers .ensures) _ (c .before .before .before .before .enum-told .given .1))
+returns c =
+    let r = c .before .before .before .before .before .before .before .before in
+    put-is _ _ _ _ _ _ (c .before .before .put-refused .ensures) (text-malformed _ _ (r .before .before .before .before .before .before .before .before .pre .0) _ _ (r .read-numbers .ensures) _ (c .before .before .before .before .enum-told .given .1))
 
 returns-2 : tie.Need-returns-2
-returns-2 c = put-is _ _ _ _ _ _ (c .before .before .before .before .before .before .before .before .put-numbers .ensures) (text-read _ _ _ (c .before .before .before .before .before .before .before .before .before .before .before .before .before .before .before .before .before .before .before .read-numbers .ensures) _ (c .before .before .before .before .before .before .before .before .before .before .before .before .before .before .before .n .given .1) _)
+returns-2 c =
+    let r = c .before .before .before .before .before .before .before .before .before .before .before .before .before .before .before .before .before .before .before in
+    put-is _ _ _ _ _ _ (c .before .before .before .before .before .before .before .before .put-numbers .ensures) (text-read _ _ (r .before .before .before .before .before .before .before .before .pre .0) _ _ (r .read-numbers .ensures) _ (c .before .before .before .before .before .before .before .before .before .before .before .before .before .before .before .n .given .1) _)
 
 pub put-text-spec : {M : Type 1} → statement M
 put-text-spec =

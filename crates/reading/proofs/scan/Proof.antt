@@ -1,14 +1,14 @@
--- `read_numbers` meets its contract. The invariant of its loop: the bytes that are left, taken from where reading stands, come to what the whole
+-- `scan` meets its contract. The invariant of its loop: the bytes that are left, taken from where reading stands, come to what the whole
 -- text comes to.
 use mathlib.Core.Path.{_≡_}
 use Prim.Native.Nat.{_-_, _≤_}
 use borrow.Author.Needs.{needs}
 use denote.Ref.{now}
 use lib.ListN.{length, drop}
-use Rattle.text.specs.Standing.{standing, textTaken}
-use Rattle.text.proofs.Scanning.{byte-next, too-long, malformed, found}
-use Rattle.text.proofs.reading.read_numbers.Statement.{statement}
-use Rattle.text.proofs.reading.read_numbers.Tie as tie
+use Rattle.reading.specs.Standing.{standing, textTaken}
+use Rattle.reading.proofs.Scanning.{byte-next, too-long, found}
+use Rattle.reading.proofs.scan.Statement.{statement}
+use Rattle.reading.proofs.scan.Tie as tie
 
 abbrev Inv-loop : tie.InvT-loop
 Inv-loop text numbers₀ p₀ i₀ numbers p i =
@@ -19,8 +19,8 @@ abbrev μ-loop : tie.MeasureT-loop
 
 returns : tie.Need-returns Inv-loop μ-loop
 returns c =
-    let a = c .before .before .before .args in
-    too-long (now (a .text)) (now (a .numbers)) (c .if1 .taken)
+    let a = c .before .before .before .before .args in
+    rw (c .lost .ensures) (too-long (now (a .text)) (now (a .numbers)) (c .before .if1 .taken))
 
 loop-again : tie.Need-loop-again Inv-loop μ-loop
 loop-again c =
@@ -29,24 +29,18 @@ loop-again c =
 
 returns-2 : tie.Need-returns-2 Inv-loop μ-loop
 returns-2 c =
-    let e = c .before .before .before in
+    let e = c .before .before in
     let t = e .before .before in
     let short = t .before .before in
-    found _ _ (short .before .before .before .pre) (short .if1 .left) _ _ (t .before .loop .inv .2) (t .loop-test .left) _ (e .end-number .ensures) (c .if2 .taken)
+    found _ _ (short .before .before .before .pre) (short .if1 .left) _ _ (t .before .loop .inv .2) (t .loop-test .left) _ (e .end-number .ensures)
 
-returns-3 : tie.Need-returns-3 Inv-loop μ-loop
-returns-3 c =
-    let e = c .before .before .before in
-    let t = e .before .before in
-    let short = t .before .before in
-    malformed _ _ (short .before .before .before .pre) (short .if1 .left) _ _ (t .before .loop .inv .2) (t .loop-test .left) _ (e .end-number .ensures) (c .if2 .left)
-
-pub read-numbers-spec : {M : Type 1} → statement M
-read-numbers-spec =
+pub scan-spec : {M : Type 1} → statement M
+scan-spec =
     tie.close
     (tie.spec
     Inv-loop
     μ-loop
+    (λ c κs. search needs)
     returns
     (λ c. search needs)
     (λ c. search needs)
@@ -56,6 +50,4 @@ read-numbers-spec =
     loop-again
     (λ c κs. search needs)
     (λ c. search needs)
-    returns-2
-    (λ c. search needs)
-    returns-3)
+    returns-2)

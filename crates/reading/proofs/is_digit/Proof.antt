@@ -1,7 +1,7 @@
 -- `is_digit` meets its contract: below the first digit none, and from there on those up to the last.
 use borrow.Author.Tests.{le-leb, lt-leb}
-use Rattle.text.proofs.reading.is_digit.Statement.{statement}
-use Rattle.text.proofs.reading.is_digit.Tie as tie
+use Rattle.reading.proofs.is_digit.Statement.{statement}
+use Rattle.reading.proofs.is_digit.Tie as tie
 
 returns : tie.Need-returns
 returns c = rw (lt-leb _ _ (c .if1 .taken))

@@ -4,8 +4,8 @@ use mathlib.Core.List.{List, [], _∷_}
 use Prim.Native.Nat.{ℕ, _+_, _-_, _*_}
 use lib.Dec.{eqb, leb, ltb}
 use lib.ListN.{set}
-use Rattle.text.specs.declared.reading.Progress.{Progress}
-use Rattle.text.specs.Reading.{isGap, isDigit}
+use Rattle.reading.specs.declared.Progress.{Progress}
+use Rattle.reading.specs.Reading.{isGap, isDigit}
 
 -- how far reading has come, and the room, with the numbers that are done at its front
 pub record Standing : Type 0 where

@@ -3,24 +3,23 @@
 use mathlib.Core.Path.{_≡_, refl, sym, ap, _∙_}
 use mathlib.Core.Logic.{_≢_, ⊎-elim}
 use mathlib.Core.Bool.{Bool, true, false, _&&_, true≢false, and-true}
-use mathlib.Core.List.{List, [], _∷_, _++_, map, append-nil}
+use mathlib.Core.List.{List, [], _∷_, _++_, map}
 use Prim.Native.Nat.{ℕ, suc, _+_, _-_, _*_, _≤_, _<_}
-use native.Mathlib.Nat.{zero-add, suc-ne-zero}
+use native.Mathlib.Nat.{zero-add, add-zero, suc-ne-zero}
 use native.Mathlib.Numerals.{add-one}
 use native.Mathlib.Omega.{arith}
 use borrow.Author.Tests.{le-leb, lt-leb, leb-true, ltb-true, ltb-false}
 use lib.Dec.{leb, ltb}
-use lib.ListN.{length, getD, take, drop, set, length-append, length-set, length-map}
-use lib.Seq.{append-snoc, take-suc-set}
+use lib.ListN.{length, getD, take, drop, set, length-append, length-set, length-map, take-append-drop}
+use lib.Seq.{append-snoc, take-suc-set, drop-set-lt}
 use Rattle.basics.proofs.Bools.{and-left, three, not-both, either}
 use Rattle.basics.proofs.Lists.{list-next, list-end}
-use Rattle.text.specs.declared.reading.Progress.{Progress}
-use Rattle.text.specs.declared.reading.Read.the-variants.{Numbers, Malformed}
-use Rattle.text.specs.Reading.{isGap, isDigit, allDigits, valueFrom, isNumber, ended, wordsFrom, allNumbers, wellFormed, numbersIn}
-use Rattle.text.specs.Found.{Found}
-use Rattle.text.specs.Standing.{Standing, standing, going, lost, digitAdded, numberEnded, byteTaken, textTaken}
-use Rattle.text.proofs.Appended.{digits-append, value-append}
-use Rattle.text.proofs.Steps.{no-number, no-place, stored, stays-lost, by-gap, by-other}
+use Rattle.reading.specs.declared.Progress.{Progress}
+use Rattle.reading.specs.Reading.{isGap, isDigit, allDigits, valueFrom, isNumber, ended, wordsFrom, allNumbers, wellFormed, numbersIn}
+use Rattle.reading.specs.Found.{Found}
+use Rattle.reading.specs.Standing.{Standing, standing, going, lost, digitAdded, numberEnded, byteTaken, textTaken}
+use Rattle.reading.proofs.Appended.{digits-append, value-append}
+use Rattle.reading.proofs.Steps.{no-number, no-place, stored, stays-lost, by-gap, by-other}
 
 -- ---- a word under way, and a byte more of it
 
@@ -98,15 +97,15 @@ under-begins (b ∷ text) w h =
 
 -- ---- what is read
 
--- s is where reading stands when the words ws are read behind the n numbers of the front
-record Reads (ws : List (List ℕ)) (n : ℕ) (front : List ℕ) (s : Standing) : Type 0 where
+-- s is where reading stands when the words ws are read behind the n numbers at the front of the room
+record Reads (ws : List (List ℕ)) (n : ℕ) (room : List ℕ) (s : Standing) : Type 0 where
   good : s .progress .good ≡ (allNumbers ws && leb (n + length ws) 16384)
   count : s .progress .good ≡ true → s .progress .count ≡ n + length ws
-  numbers : s .progress .good ≡ true → take (s .progress .count) (s .room) ≡ front ++ map (valueFrom 0) ws
+  numbers : s .progress .good ≡ true → s .room ≡ take n room ++ (map (valueFrom 0) ws ++ drop (n + length ws) room)
 
 -- the words are no numbers, or too many
-reads-lost : (ws : List (List ℕ)) (n : ℕ) (front room : List ℕ) → (allNumbers ws ≡ true → n + length ws ≤ 16384 → ⊥) → Reads ws n front (standing lost room)
-reads-lost ws n front room h =
+reads-lost : (ws : List (List ℕ)) (n : ℕ) (room : List ℕ) → (allNumbers ws ≡ true → n + length ws ≤ 16384 → ⊥) → Reads ws n room (standing lost room)
+reads-lost ws n room h =
     record {
       good = sym (not-both (allNumbers ws) (leb (n + length ws) 16384) (λ a l. h a (leb-true (n + length ws) 16384 l)));
       count = λ e. absurd (true≢false (sym e));
@@ -115,22 +114,28 @@ reads-lost ws n front room h =
 
 -- the number w is stored, and the words behind it are read
 reads-more : (w : List ℕ) (ws : List (List ℕ)) (n : ℕ) (room : List ℕ) (s : Standing) → isNumber w ≡ true → n < length room
-    → Reads ws (n + 1) (take (n + 1) (set room n (valueFrom 0 w))) s → Reads (w ∷ ws) n (take n room) s
+    → Reads ws (n + 1) (set room n (valueFrom 0 w)) s → Reads (w ∷ ws) n room s
 reads-more w ws n room s h l r =
     let same : n + suc (length ws) ≡ n + 1 + length ws = omega arith in
+    let front : take (n + 1) (set room n (valueFrom 0 w)) ≡ take n room ++ (valueFrom 0 w ∷ []) = ap (λ (k : ℕ). take k (set room n (valueFrom 0 w))) (add-one n) ∙ take-suc-set room n (valueFrom 0 w) l in
     record {
       good = r .good ∙ rw (h, same);
       count = λ e. r .count e ∙ sym same;
-      numbers = λ e. r .numbers e ∙ rw (add-one n, take-suc-set room n (valueFrom 0 w) l) (append-snoc (take n room) (valueFrom 0 w) (map (valueFrom 0) ws));
+      numbers = λ e. r .numbers e ∙ rw (front, same, drop-set-lt (n + 1 + length ws) room n (valueFrom 0 w) (omega arith))
+          (append-snoc (take n room) (valueFrom 0 w) (map (valueFrom 0) ws ++ drop (n + 1 + length ws) room));
     }
 
 -- k reads the words ws where w is under way, whatever numbers are done
 abbrev ReadsFrom : List ℕ → (Standing → Standing) → List (List ℕ) → Type 0
-ReadsFrom w k ws = (n : ℕ) (room : List ℕ) → n ≤ 16384 → 16384 ≤ length room → Reads ws n (take n room) (k (standing (under n w) room))
+ReadsFrom w k ws = (n : ℕ) (room : List ℕ) → n ≤ 16384 → 16384 ≤ length room → Reads ws n room (k (standing (under n w) room))
 
 reads-none : ReadsFrom [] (λ s. s) []
 reads-none n room few long =
-    record { good = sym (le-leb (n + 0) 16384 (omega arith)); count = λ e. omega arith; numbers = λ e. sym (append-nil (take n room)) }
+    record {
+      good = sym (le-leb (n + 0) 16384 (omega arith));
+      count = λ e. omega arith;
+      numbers = λ e. rw (add-zero n) (sym (take-append-drop n room));
+    }
 
 -- the word under way is done, and k reads those behind it
 module _ (k : Standing → Standing) (ws : List (List ℕ)) (stays : (room : List ℕ) → k (standing lost room) ≡ standing lost room) (rest : ReadsFrom [] k ws) where
@@ -140,16 +145,16 @@ module _ (k : Standing → Standing) (ws : List (List ℕ)) (stays : (room : Lis
       some : suc (length w) ≢ 0
       some = suc-ne-zero (length w)
 
-      place : ltb n 16384 ≡ true → Reads ((b ∷ w) ∷ ws) n (take n room) (k (numberEnded (standing (under n (b ∷ w)) room)))
+      place : ltb n 16384 ≡ true → Reads ((b ∷ w) ∷ ws) n room (k (numberEnded (standing (under n (b ∷ w)) room)))
       place t =
           let l = ltb-true n 16384 t in
           rw (← stored (under n (b ∷ w)) room some l)
           (reads-more (b ∷ w) ws n room _ (number-begins b w ∙ h) (omega arith) (rest (n + 1) (set room n (valueFrom 0 (b ∷ w))) (omega arith) (rw length-set long)))
 
-      full : ltb n 16384 ≡ false → Reads ((b ∷ w) ∷ ws) n (take n room) (k (numberEnded (standing (under n (b ∷ w)) room)))
+      full : ltb n 16384 ≡ false → Reads ((b ∷ w) ∷ ws) n room (k (numberEnded (standing (under n (b ∷ w)) room)))
       full t =
           let l = ltb-false n 16384 t in
-          rw (← no-place (under n (b ∷ w)) room some l, stays room) (reads-lost ((b ∷ w) ∷ ws) n (take n room) room (λ a g. omega arith))
+          rw (← no-place (under n (b ∷ w)) room some l, stays room) (reads-lost ((b ∷ w) ∷ ws) n room (λ a g. omega arith))
 
   reads-ended : (w : List ℕ) → begins w ≡ true → ReadsFrom w (λ s. k (numberEnded s)) (ended w ws)
   reads-ended [] h n room few long = rw (← no-number (under n []) room refl) (rest n room few long)
@@ -178,7 +183,7 @@ module _ (b : ℕ) (w text : List ℕ) (h : begins w ≡ true) where
     unfolding textTaken
     reads-wrong wrong n room few long =
         rw (words-other b w text other, ← by-other (under n w) room b refl other, byte-wrong b w h n wrong, lost-stays text room)
-        (reads-lost (wordsFrom (w ++ (b ∷ [])) text) n (take n room) room (λ a l. true≢false (sym (under-begins text (w ++ (b ∷ [])) a) ∙ wrong)))
+        (reads-lost (wordsFrom (w ++ (b ∷ [])) text) n room (λ a l. true≢false (sym (under-begins text (w ++ (b ∷ [])) a) ∙ wrong)))
 
     reads-other : (begins (w ++ (b ∷ [])) ≡ true → ReadsFrom (w ++ (b ∷ [])) (textTaken text) (wordsFrom (w ++ (b ∷ [])) text))
         → ReadsFrom w (textTaken (b ∷ text)) (wordsFrom w (b ∷ text))
@@ -202,24 +207,28 @@ pub byte-next : (text : List ℕ) (i : ℕ) (s w : Standing) → textTaken (drop
 unfolding textTaken
 byte-next text i s w rest h t e = rw e (list-next (λ bs. textTaken bs s) text i w rest 0 h)
 
-pub too-long : (text room : List ℕ) → 65536 < length text → Found text Malformed room
+-- a text that is too long is not well formed
+pub too-long : (text room : List ℕ) → 65536 < length text → Found text room lost room
 unfolding wellFormed
-too-long text room h = rw (lt-leb (length text) 65536 h)
+too-long text room h = record { good = rw (lt-leb (length text) 65536 h); count = λ e. absurd (true≢false (sym e)); numbers = λ e. absurd (true≢false (sym e)) }
 
 -- a text that is not too long is read to its end
-module _ (text room : List ℕ) (long : 16384 ≤ length room) (short : length text ≤ 65536) (i : ℕ) (s : Standing)
-    (rest : textTaken (drop i text) s ≡ textTaken text (standing (going 0 0 0) room)) (none : length text ≤ i) (t : Standing) (e : t ≡ numberEnded s) where
-  reads-whole : Reads (wordsFrom [] text) 0 [] t
-  unfolding textTaken
-  reads-whole = rw (e ∙ list-end (λ bs. textTaken bs s) text i _ rest none) (reads-text text [] refl 0 room (omega arith) long)
+pub found : (text room : List ℕ) → 16384 ≤ length room → length text ≤ 65536 → (i : ℕ) (s : Standing)
+    → textTaken (drop i text) s ≡ textTaken text (standing (going 0 0 0) room) → length text ≤ i → (t : Standing) → t ≡ numberEnded s
+    → Found text room (t .progress) (t .room)
+unfolding wellFormed numbersIn textTaken
+found text room long short i s rest none t e =
+    record {
+      good = reads .good ∙ rw (le-leb (length text) 65536 short, zero-add (length ws));
+      count = λ h. reads .count h ∙ omega (arith, many);
+      numbers = λ h. reads .numbers h ∙ rw (many, zero-add (length ws));
+    }
+  where
+    ws : List (List ℕ)
+    ws = wordsFrom [] text
 
-  good-if : t .progress .good ≡ wellFormed text
-  unfolding wellFormed
-  good-if = reads-whole .good ∙ rw (le-leb (length text) 65536 short, zero-add (length (wordsFrom [] text)))
+    reads : Reads ws 0 room t
+    reads = rw (e ∙ list-end (λ bs. textTaken bs s) text i _ rest none) (reads-text text [] refl 0 room (omega arith) long)
 
-  pub malformed : t .progress .good ≡ false → Found text Malformed (t .room)
-  malformed h = sym good-if ∙ h
-
-  pub found : t .progress .good ≡ true → Found text (Numbers (t .progress .count)) (t .room)
-  unfolding numbersIn
-  found h = (sym good-if ∙ h, omega (arith, reads-whole .count h, length-map (wordsFrom [] text) (valueFrom 0)), reads-whole .numbers h)
+    many : length (map (valueFrom 0) ws) ≡ length ws
+    many = length-map ws (valueFrom 0)

@@ -3,9 +3,9 @@ use mathlib.Core.Path.{sym, _∙_}
 use borrow.Author.Needs.{needs}
 use borrow.Author.Tests.{not-true, not-false}
 use denote.Ref.{now}
-use Rattle.text.proofs.Steps.{stays-lost, by-gap, by-other}
-use Rattle.text.proofs.reading.take_byte.Statement.{statement}
-use Rattle.text.proofs.reading.take_byte.Tie as tie
+use Rattle.reading.proofs.Steps.{stays-lost, by-gap, by-other}
+use Rattle.reading.proofs.take_byte.Statement.{statement}
+use Rattle.reading.proofs.take_byte.Tie as tie
 
 returns : tie.Need-returns
 returns c =

@@ -8,9 +8,9 @@ use borrow.Author.Tests.{lt-ltb, le-ltb, le-leb, lt-leb, leb-true, eq-eqb, ne-eq
 use lib.Dec.{leb}
 use lib.ListN.{set}
 use Rattle.basics.proofs.Bools.{and-left}
-use Rattle.text.specs.declared.reading.Progress.{Progress}
-use Rattle.text.specs.Reading.{isGap, isDigit}
-use Rattle.text.specs.Standing.{standing, going, lost, digitAdded, numberEnded, byteTaken}
+use Rattle.reading.specs.declared.Progress.{Progress}
+use Rattle.reading.specs.Reading.{isGap, isDigit}
+use Rattle.reading.specs.Standing.{standing, going, lost, digitAdded, numberEnded, byteTaken}
 
 -- ---- one more digit of the number under way
 

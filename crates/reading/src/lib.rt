@@ -1,15 +1,16 @@
-// Text read: the numbers of a well-formed text.
+// Text read: the numbers of a well-formed text, document 01, section 7.
 ghost use mathlib.Core.Path.{_≡_};
 ghost use Prim.Native.Nat.{_≤_};
 ghost use lib.ListN.{length, replicate};
-ghost use Rattle.text.specs.Reading.{isGap, isDigit};
-ghost use Rattle.text.specs.Found.{Found};
-ghost use Rattle.text.specs.Standing.{standing, lost, digitAdded, numberEnded, byteTaken};
+ghost use Rattle.reading.specs.Reading.{isGap, isDigit};
+ghost use Rattle.reading.specs.Call.{afterReading};
+ghost use Rattle.reading.specs.Found.{Found};
+ghost use Rattle.reading.specs.Standing.{standing, lost, digitAdded, numberEnded, byteTaken};
 
-// How many numbers a text has, if it is well formed.
-pub(crate) enum Read {
+// How many numbers were read; or nothing, because the text is malformed or the room for numbers is too short.
+pub enum Read {
     Numbers(usize),
-    Malformed,
+    Nothing,
 }
 
 // How far reading has come: whether all is well so far, how many numbers are done, how many digits the number under way has
@@ -110,13 +111,13 @@ fn take_byte(numbers: &mut [u32], p: Progress, b: u8) -> Progress
     add_digit(p, b)
 }
 
-// The numbers of `text` go to the front of `numbers`.
-pub(crate) fn read_numbers(text: &[u8], numbers: &mut [u32]) -> Read
+// The text from its first byte to its last: its numbers go to the front of `numbers`.
+fn scan(text: &[u8], numbers: &mut [u32]) -> Progress
     requires { ⌜ 16384 ≤ length (now numbers) ⌝ }
-    ensures { λ r. ⌜ Found (now (text .entry)) r (now (numbers .exit)) ⌝ }
+    ensures { λ r. ⌜ Found (now (text .entry)) (now (numbers .entry)) r (now (numbers .exit)) ⌝ }
 {
     if 65536 < text.len() {
-        return Read::Malformed;
+        return lost();
     }
     let mut p = Progress {
         good: true,
@@ -129,15 +130,11 @@ pub(crate) fn read_numbers(text: &[u8], numbers: &mut [u32]) -> Read
         p = take_byte(numbers, p, text[i]);
         i += 1;
     }
-    let end = end_number(numbers, p);
-    if end.good {
-        return Read::Numbers(end.count);
-    }
-    Read::Malformed
+    end_number(numbers, p)
 }
 
 // Every number is zero.
-pub(crate) fn clear_numbers(numbers: &mut [u32])
+pub fn clear_numbers(numbers: &mut [u32])
     ensures { λ _. ⌜ now (numbers .exit) ≡ replicate (length (now (numbers .entry))) 0 ⌝ }
 {
     let mut at: usize = 0;
@@ -145,4 +142,20 @@ pub(crate) fn clear_numbers(numbers: &mut [u32])
         numbers[at] = 0;
         at += 1;
     }
+}
+
+// The numbers of `text` go to the front of `numbers`, which has to have room for 16,384. Where nothing is read `numbers` is zero.
+pub fn read_numbers(text: &[u8], numbers: &mut [u32]) -> Read
+    ensures { λ r. ⌜ record { answer = r; room = now (numbers .exit) } ≡ afterReading (now (text .entry)) (now (numbers .entry)) ⌝ }
+{
+    if numbers.len() < 16384 {
+        clear_numbers(numbers);
+        return Read::Nothing;
+    }
+    let end = scan(text, numbers);
+    if end.good {
+        return Read::Numbers(end.count);
+    }
+    clear_numbers(numbers);
+    Read::Nothing
 }

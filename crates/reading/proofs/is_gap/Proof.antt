@@ -1,7 +1,7 @@
 -- `is_gap` meets its contract: a space, or otherwise the test for a newline.
 use borrow.Author.Tests.{eq-eqb, ne-eqb}
-use Rattle.text.proofs.reading.is_gap.Statement.{statement}
-use Rattle.text.proofs.reading.is_gap.Tie as tie
+use Rattle.reading.proofs.is_gap.Statement.{statement}
+use Rattle.reading.proofs.is_gap.Tie as tie
 
 returns : tie.Need-returns
 returns c = rw (eq-eqb _ _ (c .if1 .taken))

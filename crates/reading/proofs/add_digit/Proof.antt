@@ -2,9 +2,9 @@
 use mathlib.Core.Path.{sym, _∙_}
 use borrow.Author.Needs.{needs}
 use borrow.Author.Tests.{not-true, not-false}
-use Rattle.text.proofs.Steps.{digit-least, ten-already, no-digit, too-large, digit-more}
-use Rattle.text.proofs.reading.add_digit.Statement.{statement}
-use Rattle.text.proofs.reading.add_digit.Tie as tie
+use Rattle.reading.proofs.Steps.{digit-least, ten-already, no-digit, too-large, digit-more}
+use Rattle.reading.proofs.add_digit.Statement.{statement}
+use Rattle.reading.proofs.add_digit.Tie as tie
 
 returns : tie.Need-returns
 returns c = c .lost .ensures ∙ ten-already _ _ (c .before .if1 .taken)

@@ -1,9 +1,9 @@
 -- `end_number` meets its contract: no number is under way, there is no place for it, or it is stored.
 use borrow.Author.Needs.{needs}
 use denote.Ref.{now}
-use Rattle.text.proofs.Steps.{no-number, no-place, stored}
-use Rattle.text.proofs.reading.end_number.Statement.{statement}
-use Rattle.text.proofs.reading.end_number.Tie as tie
+use Rattle.reading.proofs.Steps.{no-number, no-place, stored}
+use Rattle.reading.proofs.end_number.Statement.{statement}
+use Rattle.reading.proofs.end_number.Tie as tie
 
 returns : tie.Need-returns
 returns c =

@@ -3,7 +3,7 @@ use mathlib.Core.Path.{_≡_, refl}
 use mathlib.Core.Bool.{_&&_, and-assoc}
 use mathlib.Core.List.{List, [], _∷_, _++_}
 use Prim.Native.Nat.{ℕ, _+_, _-_, _*_}
-use Rattle.text.specs.Reading.{isDigit, allDigits, valueFrom}
+use Rattle.reading.specs.Reading.{isDigit, allDigits, valueFrom}
 
 pub digits-append : (v w : List ℕ) → allDigits (v ++ w) ≡ (allDigits v && allDigits w)
 digits-append [] w = refl
