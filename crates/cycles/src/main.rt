@@ -28,7 +28,8 @@ fn write_cycles(input: &[u8], output: &mut [u8]) {
     }
 }
 
-// The room for the text has the size that is needed.
+// The room for the text has the size that is needed. It is in a function of its own: that it is long enough is shown by a law, not by
+// counting three million bytes.
 fn with_output(input: &[u8]) {
     let mut output: [u8; 3145728] = [0; 3145728];
     write_cycles(input, &mut output);

@@ -9,6 +9,7 @@ use crate::promises::Path;
 use crate::promises::Told;
 use crate::promises::compare_units;
 use crate::report::Report;
+use crate::table::if_above;
 use questions::above_cycles_in;
 use rules::Amount;
 
@@ -20,21 +21,13 @@ fn units_of(answer: Amount) -> u64 {
     }
 }
 
-// `n` where `cycles` are more than `budget`.
-fn if_above(n: u64, cycles: u64, budget: u64) -> u64 {
-    if budget < cycles {
-        return n;
-    }
-    0
-}
-
 // How many sequences of a path take more cycles than `budget`: `counts` has them by their misses, and the other accesses hit.
 fn sequences_above_cycles(counts: &[u64; 16], core: Core, accesses: u64, budget: u64) -> u64 {
     let mut above: u64 = 0;
     let mut misses: usize = 0;
     while misses < 16 {
         let cycles = cycles_of(core, accesses, misses as u64);
-        above = plus(above, if_above(counts[misses], cycles, budget));
+        above = plus(above, if_above(cycles, budget, counts[misses]));
         misses += 1;
     }
     above

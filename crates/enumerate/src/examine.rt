@@ -20,6 +20,7 @@ use estimate::analyse;
 use longest::longest_path;
 use rules::Length;
 use rules::Outcome;
+use rules::Units;
 
 // Whether `block` is one of at most four tracked ones; 0 is no block.
 fn is_tracked(tracked: &[u32], block: u32) -> bool {
@@ -46,7 +47,7 @@ fn all_tracked(tracked: &[u32], accesses: &[u32]) -> bool {
     true
 }
 
-// On every core.
+// By misses alone, on every core.
 fn examine_cycles(
     table: &[u64],
     told: Told,
@@ -221,6 +222,14 @@ fn accesses_of(answer: Length) -> u64 {
     }
 }
 
+// What the calls told of a graph.
+fn told_of(aside: Units, longest: u64) -> Told {
+    Told {
+        aside: aside.0,
+        longest,
+    }
+}
+
 // The graph call with one state limit.
 fn examine(
     ways: u32,
@@ -248,10 +257,7 @@ fn examine(
         Outcome::Finished(states, aside) => examine_result(
             &result,
             states,
-            Told {
-                aside: aside.0,
-                longest,
-            },
+            told_of(aside, longest),
             ways,
             limit,
             tracked,

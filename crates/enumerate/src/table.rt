@@ -13,10 +13,10 @@ pub(crate) fn total(table: &[u64]) -> u64 {
     units
 }
 
-// `units` where `misses` are more than `budget`.
-fn if_above(misses: u64, budget: u64, units: u64) -> u64 {
-    if budget < misses {
-        return units;
+// `n` where `taken`, misses or cycles, are more than `budget`.
+pub(crate) fn if_above(taken: u64, budget: u64, n: u64) -> u64 {
+    if budget < taken {
+        return n;
     }
     0
 }

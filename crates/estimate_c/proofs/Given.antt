@@ -8,14 +8,14 @@ use Rattle.rules.specs.Questions.{SpreadAnswer}
 use Rattle.estimate.specs.Call.{After}
 use Rattle.text.specs.declared.Written.{Written}
 use Rattle.text.specs.Rooms.{Rooms, AfterText, After as AfterNumbers}
-use Rattle.estimate_c.specs.Given.{graphOf, graphGiven, spreadGiven, numbersGiven, textGiven}
+use Rattle.estimate_c.specs.Given.{outcomeGiven, graphGiven, spreadGiven, numbersGiven, textGiven}
 
 pub graph-given : {o p : Outcome} {result work : List ℕ} (a : After) (states aside : ℕ)
     → o ≡ p
     → record { answer = o; result = result; work = work } ≡ a
-    → graphOf p states aside result work ≡ graphGiven a states aside
+    → outcomeGiven p states aside result work ≡ graphGiven a states aside
 graph-given {result = result} {work = work} a states aside told leaves =
-    ap (λ q. graphOf q states aside result work) (sym told) ∙ ap (λ b. graphGiven b states aside) leaves
+    ap (λ q. outcomeGiven q states aside result work) (sym told) ∙ ap (λ b. graphGiven b states aside) leaves
 
 pub spread-given : {o p : Count} {room : List ℕ} (a : SpreadAnswer) (value : ℕ)
     → o ≡ p

@@ -29,14 +29,14 @@ pub record GraphGiven : Type 0 where
   pub work : List ℕ
 
 -- of its answer, with what stood behind the two pointers, and the rooms as they are now
-abbrev pub graphOf : Outcome → ℕ → ℕ → List ℕ → List ℕ → GraphGiven
-graphOf (Finished n a) states aside result work = record { number = 0; states = n; aside = a .0; result = result; work = work }
-graphOf (RefusedOutcome r) states aside result work =
+abbrev pub outcomeGiven : Outcome → ℕ → ℕ → List ℕ → List ℕ → GraphGiven
+outcomeGiven (Finished n a) states aside result work = record { number = 0; states = n; aside = a .0; result = result; work = work }
+outcomeGiven (RefusedOutcome r) states aside result work =
     record { number = numberOf r; states = states; aside = aside; result = result; work = work }
 
 -- of what the call leaves
 abbrev pub graphGiven : After → ℕ → ℕ → GraphGiven
-graphGiven a states aside = graphOf (a .answer) states aside (a .result) (a .work)
+graphGiven a states aside = outcomeGiven (a .answer) states aside (a .result) (a .work)
 
 -- ---- a question: 0, or the refusal's number; and its value
 

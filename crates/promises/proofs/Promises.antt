@@ -1,6 +1,6 @@
 -- The promises, together and with all that they assume: an input that is accepted, by the very definition that refuses it (its
 -- outcome says 0). N is its ways, L the accesses of the path, `whole` is 2^48.
-use mathlib.Core.Path.{_≡_, sym, _∙_}
+use mathlib.Core.Path.{_≡_, refl, sym, ap, _∙_}
 use mathlib.Core.Bool.{true}
 use mathlib.Core.Logic.{⊎-elim}
 use mathlib.Core.List.{List}
@@ -9,11 +9,10 @@ use native.Mathlib.Nat.{le-refl, mul-le-mul-right}
 use native.Mathlib.Omega.{arith}
 use lib.ListN.{length}
 use Rattle.machine.specs.Draws.{count}
-use Rattle.rules.specs.declared.Verdict.the-variants.{Accepted}
-use Rattle.rules.specs.Answers.{first, outcomeSays}
+use Rattle.rules.specs.Answers.{outcomeSays, amountSays, timeSays}
 use Rattle.rules.specs.Input.{Input, nodes}
 use Rattle.rules.specs.Questions.{isTable, above}
-use Rattle.rules.specs.Cycles.{cores, coreAt, aboveCycles, cycleReasons}
+use Rattle.rules.specs.Cycles.{cores, coreAt, aboveCycles, smallestCycles, aboveCyclesAnswer, cycleBudgetAnswer}
 use Rattle.rules.specs.Longest.{longest}
 use Rattle.rules.specs.Graph.{finished}
 use Rattle.rules.specs.Refusals.{outcome}
@@ -21,7 +20,7 @@ use Rattle.rules.specs.Table.{total}
 use Rattle.rules.specs.Units.{whole}
 use Rattle.rules.proofs.Refusals.{accepted, says-aside}
 use Rattle.rules.proofs.Questions.{finished-whole, finished-is-table}
-use Rattle.rules.proofs.Cycles.{miss-above-hit, cycles-accepted}
+use Rattle.rules.proofs.Cycles.{miss-above-hit, cycles-accepted, above-cycles-answered, cycle-budget-answered}
 use Rattle.rules.proofs.Longest.{longest-most, finished-within}
 use Rattle.promises.specs.Paths.{isPath, accessesOf, allTracked}
 use Rattle.promises.specs.Ends.{over, overCycles, endsWith, unitsWith}
@@ -95,9 +94,13 @@ tight-cycles i ok one all L e k known =
     (cycles-tight (coreAt k) (miss-above-hit k known) (length (i .accesses)) (i .ways) (i .accesses) (le-refl (length (i .accesses)))
     (finished i .table) (finished-whole i ok) (rw (← straight) (finished-within i c)) (outcomeSays (outcome i) .aside) (tight i ok one all))
 
--- Asked in cycles. The questions in cycles accept the finished table with its longest path, for every core.
-pub asked-cycles : (i : Input) → outcomeSays (outcome i) .number ≡ 0 → (L : ℕ) → L ≡ longest i → (k : ℕ) → k < length cores
-    → first (cycleReasons k L (finished i .table)) ≡ Accepted
-asked-cycles i ok L e k known =
+-- Asked in cycles. The questions in cycles accept the finished table with its longest path, for every core, and say these very units and
+-- the smallest cycle budget for u of them.
+pub asked-cycles : (i : Input) → outcomeSays (outcome i) .number ≡ 0 → (L : ℕ) → L ≡ longest i → (k : ℕ) → k < length cores → (B u : ℕ)
+    → (amountSays (aboveCyclesAnswer (finished i .table) k L B) ≡ record { number = 0; value = aboveCycles (coreAt k) L B (finished i .table) })
+    × (timeSays (cycleBudgetAnswer (finished i .table) k L u) ≡ record { number = 0; value = smallestCycles (coreAt k) L u (finished i .table) })
+asked-cycles i ok L e k known B u =
     let c = accepted i ok in
-    cycles-accepted (finished i .table) k L known (omega (arith, longest-most i c, c .few-accesses)) (finished-is-table i ok) (rw e (finished-within i c))
+    let T = finished i .table in
+    let asked = cycles-accepted T k L known (omega (arith, longest-most i c, c .few-accesses)) (finished-is-table i ok) (rw e (finished-within i c)) in
+    (ap amountSays (sym (above-cycles-answered T k L asked B _ refl)), ap timeSays (sym (cycle-budget-answered T k L asked u _ refl)))

@@ -3,7 +3,7 @@
 use mathlib.Core.Path.{_≡_, sym, _∙_}
 use mathlib.Core.List.{List}
 use Prim.Native.Nat.{ℕ, _*_, _-_, _/_, _≤_, _<_}
-use native.Mathlib.Nat.{le-trans, mul-le-mul}
+use native.Mathlib.Nat.{le-trans}
 use Rattle.rules.specs.declared.Core.{Core}
 use Rattle.rules.specs.declared.State.{State}
 use Rattle.rules.specs.declared.Verdict.the-variants.{Accepted}
@@ -12,8 +12,8 @@ use Rattle.rules.specs.Units.{whole}
 use Rattle.rules.specs.Table.{total}
 use Rattle.rules.specs.Questions.{above, smallestBudget}
 use Rattle.rules.specs.Cycles.{coreAt, cyclesOf, aboveCycles, smallestCycles, cycleReasons}
-use Rattle.rules.proofs.Questions.{table-total}
-use Rattle.rules.proofs.Cycles.{Answerable, answerable, miss-above-hit, small-cycles, smallest-most, above-cycles-all, above-cycles-is, smallest-cycles-none, smallest-cycles-is}
+use Rattle.rules.proofs.Questions.{table-total, smallest-most}
+use Rattle.rules.proofs.Cycles.{Answerable, answerable, miss-above-hit, small-cycles, hits-most, above-cycles-all, above-cycles-is, smallest-cycles-none, smallest-cycles-is}
 
 module _ (T : List State) (k L : ℕ) (accepted : first (cycleReasons k L T) ≡ Accepted) where
   ok : Answerable T k L
@@ -30,7 +30,7 @@ module _ (T : List State) (k L : ℕ) (accepted : first (cycleReasons k L T) ≡
     miss-dearer = rw is dearer
 
     pub least-fits : L * c .hit ≤ 4096 * 100
-    least-fits = rw is (mul-le-mul (ok .few) (small-cycles k .0))
+    least-fits = rw is (hits-most k L (ok .few))
 
     -- ---- the units above a budget
 

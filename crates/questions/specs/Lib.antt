@@ -1,2 +1,2 @@
--- A lent row, by value
-pub mod Rows
+-- The first states of a table in words
+pub mod Span

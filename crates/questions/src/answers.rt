@@ -11,7 +11,7 @@ use rules::Units;
 ghost use mathlib.Core.Path.{_≡_};
 ghost use Rattle.rules.specs.Questions.{aboveAnswer, budgetAnswer, spreadAnswer};
 ghost use Rattle.words.specs.Tables.{tableOf};
-ghost use Rattle.questions.specs.Rows.{spanOf};
+ghost use Rattle.questions.specs.Span.{spanOf};
 
 pub(crate) fn above_of(words: &[u64], budget: u64) -> Amount
     ensures { λ r. ⌜ r ≡ aboveAnswer (tableOf (now (words .entry))) budget ⌝ }

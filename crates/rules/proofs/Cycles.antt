@@ -1,17 +1,16 @@
--- Curves in cycles. On each core a miss takes longer than a hit, so the cycles of a path of L accesses rise with its misses, and the units
+-- Curves in cycles. On each core a miss takes longer than a hit, by one computed test over their table, so the cycles of a path of L accesses rise with its misses, and the units
 -- above a cycle budget are those above a miss budget, or all of them: every law about cycles comes from one about misses.
 use mathlib.Core.Path.{_≡_, refl, sym, ap}
 use mathlib.Core.Bool.{Bool, true, false, cond, _||_, _&&_, not}
 use mathlib.Core.List.{List, [], _∷_}
 use Prim.Native.Nat.{ℕ, zero, suc, _+_, _*_, _-_, _/_, _≤_, _<_, zero-le}
-use native.Mathlib.Nat.{le-refl, le-trans, le-of-suc-le-suc, le-max-left, le-max-right, mul-le-mul-right, mul-lt-mul-of-pos-right, div-lt-iff-lt-mul}
+use native.Mathlib.Nat.{le-refl, le-trans, le-of-suc-le-suc, le-max-left, le-max-right, mul-le-mul, mul-le-mul-right, mul-lt-mul-of-pos-right, div-lt-iff-lt-mul}
 use native.Mathlib.Omega.{arith}
 use lib.Dec.{leb, ltb}
 use lib.ListN.{length, getD}
 use borrow.Author.Tests.{ltb-true, ltb-false, leb-true, leb-false, lt-ltb, le-ltb, le-leb, lt-leb, not-false}
 use Rattle.basics.specs.Sums.{sumOver}
 use Rattle.basics.proofs.Bools.{and-left, and-right, or-right, not-left, not-right, same-test}
-use Rattle.basics.proofs.Sums.{part-most}
 use Rattle.rules.specs.declared.Core.{Core}
 use Rattle.rules.specs.declared.Refusal.{Refusal}
 use Rattle.rules.specs.declared.Refusal.the-variants.{NoCore, Accesses, Row}
@@ -22,19 +21,20 @@ use Rattle.rules.specs.Units.{units}
 use Rattle.rules.specs.Answers.{first, verdictSays}
 use Rattle.rules.specs.Table.{State, unitsOf, total}
 use Rattle.rules.specs.Questions.{isTable, largest, above, smallestBudget}
-use Rattle.rules.specs.Cycles.{core, cores, coreAt, missAboveHit, cyclesOf, aboveCycles, smallestCycles, cycleReasons, aboveCyclesAnswer, cycleBudgetAnswer}
+use Rattle.rules.specs.Cycles.{core, cores, coreAt, cyclesOf, aboveCycles, smallestCycles, cycleReasons, aboveCyclesAnswer, cycleBudgetAnswer}
 use Rattle.rules.proofs.Refusals.{none-applies}
-use Rattle.rules.proofs.Questions.{above-largest, least-passes, least-least, smallest-serves, none-smaller, least-only}
+use Rattle.rules.proofs.Questions.{part-total, above-largest, least-passes, least-least, smallest-serves, none-smaller, smallest-most, least-only}
 
 -- ---- the cores
 
-pub cores-dear : missAboveHit cores ≡ true
-unfolding cores
-cores-dear = refl
+-- on each of some cores a miss takes longer than a hit
+abbrev missAboveHit : List Core → Bool
+missAboveHit [] = true
+missAboveHit (c ∷ cs) = ltb (c .hit) (c .miss) && missAboveHit cs
 
 pub miss-above-hit : (k : ℕ) → k < length cores → coreAt k .hit < coreAt k .miss
-unfolding coreAt
-miss-above-hit k l = at cores k cores-dear l
+unfolding coreAt cores
+miss-above-hit k l = at cores k refl l
   where
     at : (cs : List Core) (k : ℕ) → missAboveHit cs ≡ true → k < length cs → getD cs k (core 0 0) .hit < getD cs k (core 0 0) .miss
     at [] k h l = absurd (omega arith)
@@ -59,6 +59,10 @@ small-cycles k = at cores k refl
         )
     at (c ∷ cs) (suc k) h = at cs k (and-right (leb (c .hit) 100 && leb (c .miss) 100) (within 100 cs) h)
 
+-- the hits of a path, where no access misses
+pub hits-most : (k L : ℕ) → L ≤ 4096 → L * coreAt k .hit ≤ 4096 * 100
+hits-most k L few = mul-le-mul few (small-cycles k .0)
+
 -- ---- units by their miss count
 
 -- two tests that say the same of every miss count that is there
@@ -68,18 +72,6 @@ unfolding largest
 same-units p q [] e = refl
 same-units p q (s ∷ T) e =
     rw (e (s .misses) (le-max-left (s .misses) (largest T)), same-units p q T (λ m l. e m (le-trans l (le-max-right (s .misses) (largest T)))))
-
-pub smallest-most : (u : ℕ) (T : List State) → smallestBudget u T ≤ largest T
-smallest-most u T = go (leb (smallestBudget u T) (largest T)) refl
-  where
-    go : (b : Bool) → leb (smallestBudget u T) (largest T) ≡ b → smallestBudget u T ≤ largest T
-    go true h = leb-true (smallestBudget u T) (largest T) h
-    go false h =
-        absurd (omega (
-          arith,
-          none-smaller u T (largest T) (leb-false (smallestBudget u T) (largest T) h),
-          above-largest (largest T) T (le-refl (largest T)),
-        ))
 
 -- ---- a core, and a path of L accesses
 
@@ -144,10 +136,9 @@ module _ (c : Core) (d : c .hit < c .miss) (L : ℕ) where
   above-cycles-at m T k l =
       same-units (λ n. ltb (cyclesOf c L m) (cyclesOf c L n)) (λ n. ltb m n) T (λ n j. cycles-test m n k (le-trans j l))
 
-  pub above-cycles-most : (B : ℕ) (T : List State) → aboveCycles c L B T ≤ total T
-  unfolding aboveCycles total
-  above-cycles-most B [] = zero-le
-  above-cycles-most B (s ∷ T) = omega (arith, part-most (ltb B (cyclesOf c L (s .misses))) (unitsOf s), above-cycles-most B T)
+  above-cycles-most : (B : ℕ) (T : List State) → aboveCycles c L B T ≤ total T
+  unfolding aboveCycles
+  above-cycles-most B T = part-total (λ m. ltb B (cyclesOf c L m)) T
 
   -- ---- the smallest cycle budget
 

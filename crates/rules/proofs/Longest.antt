@@ -25,13 +25,13 @@ use Rattle.rules.proofs.Graph.{nodeTable, finished-table, first-and-oth
 
 -- ---- what stands for each node
 
-pub length-longest : (i : Input) (n : ℕ) → length (longestTo i n) ≡ n
+length-longest : (i : Input) (n : ℕ) → length (longestTo i n) ≡ n
 unfolding longestTo
 length-longest i zero = refl
 length-longest i (suc n) = omega (arith, length-append (longestTo i n) (upTo i n ∷ []), length-longest i n)
 
 -- that is what stands for node j, and it stays as later nodes are added
-pub longest-at : (i : Input) (n j : ℕ) → j < n → getD (longestTo i n) j 0 ≡ upTo i j
+longest-at : (i : Input) (n j : ℕ) → j < n → getD (longestTo i n) j 0 ≡ upTo i j
 unfolding longestTo
 longest-at i zero j l = absurd (not-suc-le-zero l)
 longest-at i (suc n) j l = go (eq-or-lt-of-le (le-of-suc-le-suc l)) (longest-at i n j)
@@ -40,7 +40,7 @@ longest-at i (suc n) j l = go (eq-or-lt-of-le (le-of-suc-le-suc l)) (longest-at 
     go (inl e) ih = rw e (getD-at (longestTo i n) (upTo i n) [] 0 n (length-longest i n))
     go (inr k) ih = List·getD-append (longestTo i n) (upTo i n ∷ []) 0 j (omega (arith, length-longest i n)) ∙ ih k
 
--- the last node's is the longest of all
+-- what stands for the last node is the longest path's
 pub longest-is : (i : Input) → 0 < nodes i → longest i ≡ upTo i (nodes i - 1)
 unfolding longest
 longest-is i h = longest-at i (nodes i) (nodes i - 1) (omega arith)
@@ -91,12 +91,12 @@ module _ (ends : List ℕ) where
 -- ---- from node to node
 
 module _ (i : Input) (ok : Checked i) where
-  -- it is no less for any predecessor
+  -- before node j stand no fewer than up to any predecessor of it
   pub before-each : (j a : ℕ) → among (predecessors (edgesOf (i .edges)) j) a ≡ true → upTo i a ≤ before i j
   before-each j a e =
       rw (longest-at i j a (predecessor-lower i ok a j e .0)) at (most-each (longestTo i j) (predecessors (edgesOf (i .edges)) j) a e)
 
-  -- and just what it is for one of them; only before node 0 there is nothing
+  -- and just as many as up to one of them; only before node 0 there are none
   pub before-one : (j : ℕ) → j < nodes i
       → ((j ≡ 0) × (before i j ≡ 0)) ⊎ ((a : ℕ) × (among (predecessors (edgesOf (i .edges)) j) a ≡ true) × (upTo i a ≡ before i j))
   unfolding mostOf

@@ -32,6 +32,13 @@ use Rattle.rules.specs.Shape.{Every, Shaped, Table}
 use Rattle.rules.proofs.Refusals.{Checked, accepted}
 use Rattle.rules.proofs.Graph.{finished-table, node-table}
 
+-- ---- the units whose misses pass a test
+
+pub part-total : (p : ℕ → Bool) (T : List State) → sumOver (λ s. cond (p (s .misses)) (unitsOf s) 0) T ≤ total T
+unfolding total
+part-total p [] = zero-le
+part-total p (s ∷ T) = omega (arith, part-most (p (s .misses)) (unitsOf s), part-total p T)
+
 -- ---- the units above a budget
 
 pub above-largest : (B : ℕ) (T : List State) → largest T ≤ B → above B T ≡ 0
@@ -48,9 +55,8 @@ above-largest B (s ∷ T) l =
     none h = rw (le-ltb B (s .misses) h)
 
 pub above-most : (B : ℕ) (T : List State) → above B T ≤ total T
-unfolding above total
-above-most B [] = zero-le
-above-most B (s ∷ T) = omega (arith, part-most (ltb B (s .misses)) (unitsOf s), above-most B T)
+unfolding above
+above-most B T = part-total (λ m. ltb B m) T
 
 -- they fall as the budget grows
 pub above-falls : (A B : ℕ) (T : List State) → A ≤ B → above B T ≤ above A T
@@ -73,9 +79,8 @@ misses-most (s ∷ T) zero l = le-max-left (s .misses) (largest T)
 misses-most (s ∷ T) (suc i) l = le-trans (misses-most T i (le-of-suc-le-suc l)) (le-max-right (s .misses) (largest T))
 
 pub units-most : (m : ℕ) (T : List State) → unitsAt m T ≤ total T
-unfolding unitsAt total
-units-most m [] = zero-le
-units-most m (s ∷ T) = omega (arith, part-most (eqb (s .misses) m) (unitsOf s), units-most m T)
+unfolding unitsAt
+units-most m T = part-total (λ n. eqb n m) T
 
 units-beyond : (m : ℕ) (T : List State) → largest T < m → unitsAt m T ≡ 0
 unfolding unitsAt largest
@@ -240,6 +245,19 @@ smallest-serves u T =
 pub none-smaller : (u : ℕ) (T : List State) (B : ℕ) → B < smallestBudget u T → u < above B T
 unfolding smallestBudget
 none-smaller u T B l = leb-false (above B T) u (least-least (λ B. leb (above B T) u) (largest T) B l)
+
+-- it is at most the largest miss count
+pub smallest-most : (u : ℕ) (T : List State) → smallestBudget u T ≤ largest T
+smallest-most u T = go (leb (smallestBudget u T) (largest T)) refl
+  where
+    go : (b : Bool) → leb (smallestBudget u T) (largest T) ≡ b → smallestBudget u T ≤ largest T
+    go true h = leb-true (smallestBudget u T) (largest T) h
+    go false h =
+        absurd (omega (
+          arith,
+          none-smaller u T (largest T) (leb-false (smallestBudget u T) (largest T) h),
+          above-largest (largest T) T (le-refl (largest T)),
+        ))
 
 -- it is the only one of that kind
 pub smallest-is : (u : ℕ) (T : List State) (B : ℕ) → above B T ≤ u → ((A : ℕ) → A < B → u < above A T) → B ≡ smallestBudget u T

@@ -166,7 +166,7 @@ pub struct Core {
 }
 
 // The cores in service: document 02, request 9/13.
-pub const CORES: [Core; 12] = [
+const CORES: [Core; 12] = [
     Core { hit: 1, miss: 8 },
     Core { hit: 1, miss: 10 },
     Core { hit: 1, miss: 12 },

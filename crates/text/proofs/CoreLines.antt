@@ -10,7 +10,7 @@ use lib.Seq.{paste-zero}
 use Rattle.rules.specs.declared.Core.{Core}
 use Rattle.rules.specs.Units.{whole}
 use Rattle.rules.specs.Cycles.{cores, coreAt}
-use Rattle.rules.proofs.Cycles.{miss-above-hit, small-cycles}
+use Rattle.rules.proofs.Cycles.{miss-above-hit, small-cycles, hits-most}
 use Rattle.text.specs.Writing.{linesBelow}
 use Rattle.text.specs.Cycles.{coreLine}
 use Rattle.text.specs.Put.{Put, countLines, coreCounts}
@@ -20,15 +20,15 @@ use Rattle.text.proofs.Putting.{put-is, put-then, lines-long}
 -- ---- one core
 
 module _ (k : ℕ) (known : k < 12) (L : ℕ) (path : L ≤ 4096) (c : Core) (is : c ≡ coreAt k) where
-  pub miss-dearer : c .hit ≤ c .miss
+  pub hit-no-dearer : c .hit ≤ c .miss
   unfolding cores
-  miss-dearer = rw is (le-of-lt (miss-above-hit k known))
+  hit-no-dearer = rw is (le-of-lt (miss-above-hit k known))
 
   pub hits-fit : L * c .hit ≤ 4096 * 100
-  hits-fit = rw is (mul-le-mul path (small-cycles k .0))
+  hits-fit = rw is (hits-most k L path)
 
-  pub cycles-fit : (us : List ℕ) → length us ≤ 4097 → L * c .hit + length us * (c .miss - c .hit) ≤ 4294967295
-  cycles-fit us few =
+  pub numbers-fit : (us : List ℕ) → length us ≤ 4097 → L * c .hit + length us * (c .miss - c .hit) ≤ 4294967295
+  numbers-fit us few =
       let extra : c .miss - c .hit ≤ 100 = rw is (omega (arith, small-cycles k .1)) in
       omega (arith, hits-fit, mul-le-mul few extra)
 

@@ -123,9 +123,9 @@ module _ (ns : List ℕ) (ok : complete ns ≡ true) (r : Outcome) (result : Lis
         ∙ sym (ap (λ (v : Verdict). told v (text i)) is-accepted)
         ∙ printed-told text
 
-    pub call-finishes : Finishes ns result states aside
+    pub left-finished : Finishes ns result states aside
     unfolding curve inCycles
-    call-finishes =
+    left-finished =
         let all = checked i (sym is-accepted) in
         record {
           accepted = is-accepted;

@@ -13,6 +13,7 @@ use Rattle.reading.specs.Reading.{wellFormed, numbersIn}
 use Rattle.text.specs.Parts.{complete, inputFrom}
 use Rattle.text.specs.Writing.{refusedLine}
 
+-- the text of an accepted input, or the line of its refusal
 abbrev pub told : Verdict → List ℕ → List ℕ
 told Accepted text = text
 told (Refused r) text = refusedLine (numberOf r)

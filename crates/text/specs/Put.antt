@@ -19,6 +19,6 @@ unfoldable pub countLines : ℕ → ℕ → ℕ → ℕ → List ℕ → List �
 countLines first step m left [] = []
 countLines first step m left (u ∷ us) = countLine (first + m * step) u (left - u) ++ countLines first step (suc m) (left - u) us
 
--- core k and a line for each count, where L hits stand for no misses
+-- core k and a line for each count, where no misses stand for L hits
 unfoldable pub coreCounts : ℕ → List ℕ → ℕ → List ℕ
 coreCounts L us k = let c = coreAt k in coreLine k c ++ countLines (L * c .hit) (c .miss - c .hit) 0 whole us

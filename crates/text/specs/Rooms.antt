@@ -35,14 +35,16 @@ pub record Rooms : Type 0 where
   pub counts : List ℕ
   pub output : List ℕ
 
--- how many words they have to have, and how many bytes, of which the longest text needs `bytes`
+-- how many words they have to have, and how many bytes, `bytes` being surely enough for the text
 abbrev pub longEnough : ℕ → ℕ → ℕ → ℕ → ℕ → Bool
 longEnough bytes result work counts output = leb 192 result && leb 15552 work && leb 4097 counts && leb bytes output
 
+-- whether rooms are long enough
 abbrev pub enough : ℕ → Rooms → Bool
 enough bytes r = longEnough bytes (length (r .result)) (length (r .work)) (length (r .counts)) (length (r .output))
 
--- the curve has at most 1 + 4,097 lines of at most 63 bytes; the curves in cycles have 12 times as many, and one more
+-- the curve: a line of at most 55 bytes, and 4,097 of at most 63; the curves in cycles: one of at most 84, and for each core one of at most
+-- 77 and 4,097 of at most 63
 abbrev pub curveBytes : ℕ
 curveBytes = 262144
 
@@ -51,6 +53,7 @@ cyclesBytes = 3145728
 
 -- ---- a list of numbers
 
+-- the answer, and the rooms then
 pub record After : Type 0 where
   pub answer : Written
   pub rooms : Rooms
@@ -78,17 +81,20 @@ afterCyclesOfNumbers ns r = leaves (enough cyclesBytes r) (cyclesOfNumbers ns) r
 
 -- ---- a text, which needs room for its numbers too
 
+-- the answer, the room for numbers and the other rooms then
 pub record AfterText : Type 0 where
   pub answer : Written
   pub numbers : List ℕ
   pub rooms : Rooms
 
+-- where it is long enough too, it is zero then; otherwise nothing is written
 abbrev pub leavesText : Bool → List ℕ → List ℕ → Rooms → AfterText
 leavesText ok text numbers r =
     let all = leb 16384 (length numbers) && ok in
     let a = leaves all text r in
     record { answer = a .answer; numbers = cond all (replicate (length numbers) 0) numbers; rooms = a .rooms }
 
+-- after the curve, and after the curves in cycles
 unfoldable pub afterText : List ℕ → List ℕ → Rooms → AfterText
 afterText text numbers r = leavesText (enough curveBytes r) (curveOfText text) numbers r
 

@@ -9,16 +9,20 @@ use Rattle.text.specs.Curve.{curve}
 use Rattle.text.specs.Cycles.{inCycles}
 use Rattle.text.specs.Rooms.{Rooms, enough, curveBytes, cyclesBytes, After, leaves, AfterText, leavesText}
 
+-- what an accepted input prints
 abbrev pub wantedText : Wanted → Input → List ℕ
 wantedText Misses = curve
 wantedText Cycles = inCycles
 
+-- the bytes that are surely enough for it
 abbrev pub wantedBytes : Wanted → ℕ
 wantedBytes Misses = curveBytes
 wantedBytes Cycles = cyclesBytes
 
+-- what a call for numbers leaves
 abbrev pub wantedAfter : Wanted → List ℕ → Rooms → After
 wantedAfter w ns r = leaves (enough (wantedBytes w) r) (ofNumbers (wantedText w) ns) r
 
+-- what a call for a text leaves
 abbrev pub wantedAfterText : Wanted → List ℕ → List ℕ → Rooms → AfterText
 wantedAfterText w text numbers r = leavesText (enough (wantedBytes w) r) (ofText (wantedText w) text) numbers r

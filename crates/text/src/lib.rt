@@ -47,7 +47,7 @@ pub fn cycles_of_numbers(
     write_numbers(Wanted::Cycles, numbers, result, work, counts, output)
 }
 
-// The curve's text for a text. Long enough are rooms as for numbers, and 16,384 numbers.
+// The curve's text for a text. Long enough are rooms as for `curve_of_numbers`, and 16,384 numbers.
 pub fn curve_of_text(
     text: &[u8],
     numbers: &mut [u32],
@@ -61,7 +61,7 @@ pub fn curve_of_text(
     write_text(Wanted::Misses, text, numbers, result, work, counts, output)
 }
 
-// The text of the curves in cycles for a text. Long enough are rooms as for numbers, and 16,384 numbers.
+// The text of the curves in cycles for a text. Long enough are rooms as for `cycles_of_numbers`, and 16,384 numbers.
 pub fn cycles_of_text(
     text: &[u8],
     numbers: &mut [u32],

@@ -59,7 +59,7 @@ fn put_head_words(room: &mut [u8], states: u64, aside: u64) -> usize
     put_named(room, counted, b" aside ", aside)
 }
 
-// They alone on the first line.
+// The first line of the curve: these two.
 pub(crate) fn put_head(room: &mut [u8], states: u64, aside: u64) -> usize
     requires { ⌜ 55 ≤ length (now room) ⌝ }
     ensures { λ r. ⌜ Put (headLine states aside) 0 r (now (room .entry)) (now (room .exit)) ⌝ }
@@ -68,7 +68,7 @@ pub(crate) fn put_head(room: &mut [u8], states: u64, aside: u64) -> usize
     put(room, end, b"\n")
 }
 
-// They and the longest path's accesses on the first line.
+// The first line of the curves in cycles: these two and the longest path's accesses.
 pub(crate) fn put_longest(room: &mut [u8], states: u64, aside: u64, longest: u64) -> usize
     requires { ⌜ 84 ≤ length (now room) ⌝ }
     ensures { λ r. ⌜ Put (longestLine states aside longest) 0 r (now (room .entry)) (now (room .exit)) ⌝ }
@@ -78,7 +78,7 @@ pub(crate) fn put_longest(room: &mut [u8], states: u64, aside: u64, longest: u64
     put(room, end, b"\n")
 }
 
-// A line of the curve: misses or what they stand for, units there, units above.
+// A line of a curve: `misses` or the cycles that they stand for, units there, units above.
 pub(crate) fn put_line(room: &mut [u8], at: usize, misses: u64, units: u64, above: u64) -> usize
     requires { ⌜ at + 63 ≤ length (now room) ⌝ }
     ensures { λ r. ⌜ Put (countLine misses units above) at r (now (room .entry)) (now (room .exit)) ⌝ }

@@ -4,7 +4,7 @@ use native.Mathlib.Omega.{arith}
 use borrow.Author.Needs.{needs}
 use denote.Ref.{now}
 use Rattle.text.proofs.Putting.{put-then}
-use Rattle.text.proofs.CoreLines.{core-line-long, miss-dearer, hits-fit, cycles-fit, core-put}
+use Rattle.text.proofs.CoreLines.{core-line-long, hit-no-dearer, hits-fit, numbers-fit, core-put}
 use Rattle.text.proofs.cores.put_core.Statement.{statement}
 use Rattle.text.proofs.cores.put_core.Tie as tie
 
@@ -16,7 +16,7 @@ mul-put-lines c =
 sub-put-lines : tie.Need-sub-put-lines
 sub-put-lines c =
     let (long, known, few, full, path) = c .before .before .before .before .before .before .before .before .before .before .pre in
-    miss-dearer _ known _ path _ (c .before .before .before .before .before .before .before .core-at .ensures)
+    hit-no-dearer _ known _ path _ (c .before .before .before .before .before .before .before .core-at .ensures)
 
 put-lines-requires : tie.Need-put-lines-requires
 put-lines-requires c κs =
@@ -26,7 +26,7 @@ put-lines-requires c κs =
     let line = c .before .before .before .before .before .put-core-line in (
       omega (arith, long, few, line .ensures .ends, line .kept .0, core-line-long (a .number) (core .result)),
       full,
-      cycles-fit _ known _ path _ (core .ensures) (now (a .counts)) few,
+      numbers-fit _ known _ path _ (core .ensures) (now (a .counts)) few,
     )
 
 returns : tie.Need-returns

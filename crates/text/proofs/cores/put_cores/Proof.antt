@@ -1,6 +1,6 @@
 -- `put_cores` goes core by core. The invariant of its loop: the lines of the cores so far are put.
 use mathlib.Core.Path.{_≡_, refl, ap, _∙_}
-use Prim.Native.Nat.{_-_, _≤_}
+use Prim.Native.Nat.{_-_, _≤_, _<_}
 use native.Mathlib.Omega.{arith}
 use borrow.Author.Needs.{needs}
 use denote.Ref.{now}
@@ -27,9 +27,10 @@ loop-holds c =
 put-core-requires : tie.Need-put-core-requires Inv-loop μ-loop
 put-core-requires c κs =
     let (long, few, full, path) = c .before .before .before .before .before .pre in
-    let l = c .before .before .loop in (
-      core-fits _ _ few _ _ _ _ _ (l .inv .2) (c .before .loop-test .taken) long (l .inv .1),
-      c .before .loop-test .taken,
+    let l = c .before .before .loop in
+    let more : l .number < 12 = omega (arith, c .before .loop-test .taken) in (
+      core-fits _ _ few _ _ _ _ _ (l .inv .2) more long (l .inv .1),
+      more,
       few,
       full,
       path,
@@ -39,10 +40,11 @@ loop-again : tie.Need-loop-again Inv-loop μ-loop
 loop-again c =
     let (long, few, full, path) = c .before .before .before .before .before .before .before .before .pre in
     let l = c .before .before .before .before .before .loop in
+    let more : l .number < 12 = omega (arith, c .before .before .before .before .loop-test .taken) in
     let core = c .before .before .put-core in (
       search needs,
       core .kept .0 ∙ l .inv .1,
-      cores-more _ _ few _ _ _ _ _ (l .inv .2) (c .before .before .before .before .loop-test .taken) long _ _ (core .ensures),
+      cores-more _ _ few _ _ _ _ _ (l .inv .2) more long _ _ (core .ensures),
     )
 
 returns : tie.Need-returns Inv-loop μ-loop

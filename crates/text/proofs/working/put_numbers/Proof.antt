@@ -10,7 +10,7 @@ use Rattle.text.specs.Printed.{ofNumbers}
 use Rattle.text.specs.Wanted.{wantedText, wantedBytes}
 use Rattle.text.proofs.Places.{is-complete, ends-in-order, not-ends}
 use Rattle.text.proofs.Putting.{put-is}
-use Rattle.text.proofs.Printed.{printed-incomplete, printed-refused, Finishes, call-finishes}
+use Rattle.text.proofs.Printed.{printed-incomplete, printed-refused, Finishes, left-finished}
 use Rattle.text.proofs.Rooms.{line-fits}
 use Rattle.text.proofs.working.put_numbers.Statement.{statement}
 use Rattle.text.proofs.working.put_numbers.Tie as tie
@@ -27,7 +27,7 @@ ends c =
 
 -- the call left a finished table
 finishes : (c : tie.After-known-told2) → Finishes (now (c .before .before .before .before .before .before .before .before .before .before .before .before .before .before .before .before .before .before .before .before .args .numbers)) (c .before .before .before .before .before .before .before .call .last .1 .1 .1 .1 .0) (c .before .states .given .0 .0) (c .before .states .given .0 .1 .0)
-finishes c = call-finishes _ (is-complete _ _ _ _ (ends (c .before .before .before .before .before .before .before .before .before .before))) _ _ (c .before .before .before .before .before .before .before .call .ensures) _ _ (c .before .states .given .1)
+finishes c = left-finished _ (is-complete _ _ _ _ (ends (c .before .before .before .before .before .before .before .before .before .before))) _ _ (c .before .before .before .before .before .before .before .call .ensures) _ _ (c .before .states .given .1)
 
 put-refused-requires : tie.Need-put-refused-requires
 put-refused-requires c κs = line-fits (c .before .before .before .before .before .before .before .before .before .before .before .args .wanted) _ (c .before .before .before .before .before .before .before .before .before .before .before .pre .3)

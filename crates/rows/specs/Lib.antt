@@ -1,0 +1,2 @@
+-- A lent row, by value
+pub mod Rows

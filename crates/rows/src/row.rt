@@ -1,0 +1,94 @@
+// A lent row of states, by value: what is asked of it is asked of its words.
+use questions::above_cycles_in;
+use questions::above_in;
+use questions::smallest_budget_in;
+use questions::smallest_cycles_in;
+use questions::spread_in;
+use rules::Amount;
+use rules::Count;
+use rules::State;
+use rules::Time;
+ghost use mathlib.Core.Path.{_≡_};
+ghost use Rattle.rules.specs.Questions.{aboveAnswer, budgetAnswer, spreadAnswer};
+ghost use Rattle.rules.specs.Cycles.{aboveCyclesAnswer, cycleBudgetAnswer};
+ghost use Rattle.rows.specs.Rows.{nothingHeld, oneMore, copied, statesOf};
+
+// The first states of a row, 65 at most: one more than a table has.
+pub(crate) struct Held {
+    pub states: usize,
+    pub words: [u64; 195],
+}
+
+pub(crate) fn nothing() -> Held
+    ensures { λ r. ⌜ r ≡ nothingHeld ⌝ }
+{
+    let words = [0; 195];
+    Held { states: 0, words }
+}
+
+// One state more; where there is no room for it, the row is no table whatever follows.
+pub(crate) fn hold(held: Held, s: State) -> Held
+    ensures { λ r. ⌜ r ≡ oneMore held s ⌝ }
+{
+    let n = held.states;
+    if 64 < n {
+        return held;
+    }
+    let u = s.units;
+    let mut words = held.words;
+    words[n * 3] = s.mask;
+    words[n * 3 + 1] = s.misses;
+    words[n * 3 + 2] = u.0;
+    Held {
+        states: n + 1,
+        words,
+    }
+}
+
+// The walk: each state of the row in turn.
+pub(crate) fn copy(row: &[State]) -> Held
+    ensures { λ r. ⌜ r ≡ copied (now (row .entry)) ⌝ }
+{
+    let mut held = nothing();
+    let mut i = 0;
+    while i < row.len() {
+        held = hold(held, row[i]);
+        i = i + 1;
+    }
+    held
+}
+
+pub(crate) fn above_held(held: Held, budget: u64) -> Amount
+    ensures { λ r. ⌜ r ≡ aboveAnswer (statesOf held) budget ⌝ }
+{
+    let words = held.words;
+    above_in(&words, held.states, budget)
+}
+
+pub(crate) fn budget_held(held: Held, units: u64) -> Count
+    ensures { λ r. ⌜ r ≡ budgetAnswer (statesOf held) units ⌝ }
+{
+    let words = held.words;
+    smallest_budget_in(&words, held.states, units)
+}
+
+pub(crate) fn spread_held(held: Held, room: &mut [u64]) -> Count
+    ensures { λ r. ⌜ record { answer = r; room = now (room .exit) } ≡ spreadAnswer (statesOf held) (now (room .entry)) ⌝ }
+{
+    let words = held.words;
+    spread_in(&words, held.states, room)
+}
+
+pub(crate) fn above_cycles_held(held: Held, core: usize, longest: u64, budget: u64) -> Amount
+    ensures { λ r. ⌜ r ≡ aboveCyclesAnswer (statesOf held) core longest budget ⌝ }
+{
+    let words = held.words;
+    above_cycles_in(&words, held.states, core, longest, budget)
+}
+
+pub(crate) fn cycle_budget_held(held: Held, core: usize, longest: u64, units: u64) -> Time
+    ensures { λ r. ⌜ r ≡ cycleBudgetAnswer (statesOf held) core longest units ⌝ }
+{
+    let words = held.words;
+    smallest_cycles_in(&words, held.states, core, longest, units)
+}
