@@ -2,7 +2,6 @@
 #include "plain.h"
 
 #include <inttypes.h>
-#include <stdbool.h>
 #include <stdio.h>
 #include <string.h>
 
@@ -16,26 +15,12 @@
 #define STATE_WORDS 3
 #define WORKING_STATES 5184
 
-/* Section 7: the longest text, the most numbers in it, the most digits of one. */
+/* Section 7: the longest text, the most digits of a number. */
 #define MOST_BYTES 65536
-#define MOST_NUMBERS 16384
 #define MOST_DIGITS 10
 
 /* Section 3: "One access from K states gives at most 17xK before adding." */
 #define MOST_SUCCESSORS (17 * MOST_STATES)
-
-/* What comes in (section 2). */
-struct graph {
-    uint32_t ways, limit;
-    const uint32_t *tracked;
-    size_t tracked_count;
-    const uint32_t *runs;
-    size_t nodes;
-    const uint32_t *accesses;
-    size_t access_count;
-    const uint32_t *edges;
-    size_t edge_numbers;
-};
 
 /* A table at work: states in order, with room for all successors of a full table. */
 struct table {
@@ -187,7 +172,7 @@ static void fold(struct table *table, size_t limit, uint64_t *aside)
 /* ---- Section 3, accesses ---- */
 
 /* Section 2: "Looking up an accessed block finds its place in the list or finds it untracked". Gives the bit of that place, or 0. */
-static uint64_t look_up(const struct graph *graph, uint32_t block)
+static uint64_t look_up(const struct plain_input *graph, uint32_t block)
 {
     for (size_t i = 0; i < graph->tracked_count; i++) {
         if (graph->tracked[i] == block)
@@ -217,7 +202,7 @@ static void step_from(struct table *next, const struct plain_state *from, uint64
 }
 
 /* One access from a whole table, and the fold after it. */
-static void step(const struct table *table, struct table *next, uint64_t bit, const struct graph *graph, uint64_t *aside)
+static void step(const struct table *table, struct table *next, uint64_t bit, const struct plain_input *graph, uint64_t *aside)
 {
     next->count = 0;
     for (size_t i = 0; i < table->count; i++)
@@ -226,7 +211,7 @@ static void step(const struct table *table, struct table *next, uint64_t bit, co
 }
 
 /* Section 2: "Each node's run is a stretch of the one access list". */
-static void work_run(struct table *table, const struct graph *graph, size_t first, size_t length, uint64_t *aside)
+static void work_run(struct table *table, const struct plain_input *graph, size_t first, size_t length, uint64_t *aside)
 {
     struct table next;
     for (size_t i = first; i < first + length; i++) {
@@ -259,7 +244,7 @@ static void join(struct table *joined, const struct table *left, const struct no
 
 /* "start from the lowest predecessor's table and join the others in rising order, one table at a time; each is a join of its own, folded
  * before the next." The edges of a node stand together, beginning with number `edge`; gives the number of the first after them. */
-static size_t enter_node(struct table *table, const struct graph *graph, const struct node_table *done, size_t node, size_t edge,
+static size_t enter_node(struct table *table, const struct plain_input *graph, const struct node_table *done, size_t node, size_t edge,
                          uint64_t *aside)
 {
     struct table joined;
@@ -274,7 +259,7 @@ static size_t enter_node(struct table *table, const struct graph *graph, const s
 }
 
 /* "Each node is worked once." The table of the last is the finished one. */
-static void work_nodes(const struct graph *graph, struct table *table, uint64_t *aside)
+static void work_nodes(const struct plain_input *graph, struct table *table, uint64_t *aside)
 {
     struct node_table done[MOST_NODES];
     size_t edge = 0, first = 0;
@@ -293,7 +278,7 @@ static void work_nodes(const struct graph *graph, struct table *table, uint64_t 
 /* ---- Section 5, refusals of the graph call ---- */
 
 /* Refusal 3: "more than 16 tracked blocks, or one listed twice" */
-static bool tracked_accepted(const struct graph *graph)
+static bool tracked_accepted(const struct plain_input *graph)
 {
     if (graph->tracked_count > MOST_TRACKED)
         return false;
@@ -307,7 +292,7 @@ static bool tracked_accepted(const struct graph *graph)
 }
 
 /* Refusal 5: "run lengths not summing to the accesses". At most 64 lengths below 2^32 are summed. */
-static bool runs_accepted(const struct graph *graph)
+static bool runs_accepted(const struct plain_input *graph)
 {
     uint64_t sum = 0;
     for (size_t i = 0; i < graph->nodes; i++)
@@ -316,7 +301,7 @@ static bool runs_accepted(const struct graph *graph)
 }
 
 /* Section 2: "from lower than to and to below the node count, listed strictly rising by to and then by from" */
-static bool edges_in_order(const struct graph *graph)
+static bool edges_in_order(const struct plain_input *graph)
 {
     for (size_t i = 0; i < graph->edge_numbers; i += 2) {
         uint32_t from = graph->edges[i], to = graph->edges[i + 1];
@@ -332,7 +317,7 @@ static bool edges_in_order(const struct graph *graph)
 }
 
 /* Section 2: "Every node but 0 has an edge in; every node but the last has an edge out." */
-static bool nodes_connected(const struct graph *graph)
+static bool nodes_connected(const struct plain_input *graph)
 {
     bool has_in[MOST_NODES] = {false}, has_out[MOST_NODES] = {false};
     for (size_t i = 0; i < graph->edge_numbers; i += 2) {
@@ -349,7 +334,7 @@ static bool nodes_connected(const struct graph *graph)
 }
 
 /* Refusal 5. Half an edge is an edge rule broken. */
-static bool nodes_accepted(const struct graph *graph)
+static bool nodes_accepted(const struct plain_input *graph)
 {
     if (graph->nodes < 1 || graph->nodes > MOST_NODES)
         return false;
@@ -357,7 +342,7 @@ static bool nodes_accepted(const struct graph *graph)
 }
 
 /* "Checked in this order; the first that applies is given." */
-static int refusal(const struct graph *graph, size_t result_words, size_t work_words)
+static int refusal(const struct plain_input *graph, size_t result_words, size_t work_words)
 {
     if (graph->ways < 1 || graph->ways > MOST_WAYS)
         return 1;
@@ -382,7 +367,7 @@ int plain_graph(uint32_t ways, uint32_t limit,
                 size_t result_words, size_t work_words,
                 struct plain_state *table, size_t *states, uint64_t *aside)
 {
-    const struct graph graph = {
+    const struct plain_input graph = {
         ways, limit, tracked, tracked_count, runs, nodes, accesses, access_count, edges, edge_numbers,
     };
     struct table finished;
@@ -401,7 +386,7 @@ int plain_graph(uint32_t ways, uint32_t limit,
 
 /* "Accepted as a table: 1 to 64 states, rising as above, masks at most 65,535, misses at most 4,096, each state with at least 1 unit, and
  * a true total (not one that wrapped) of exactly WHOLE." The total is kept at WHOLE or below, so it cannot wrap. */
-static bool is_table(const struct plain_state *row, size_t states)
+bool plain_is_table(const struct plain_state *row, size_t states)
 {
     uint64_t total = 0;
     if (states < 1 || states > MOST_STATES)
@@ -441,7 +426,7 @@ static uint64_t largest_misses(const struct plain_state *row, size_t states)
 
 int plain_above(const struct plain_state *row, size_t states, uint64_t budget, uint64_t *units)
 {
-    if (!is_table(row, states))
+    if (!plain_is_table(row, states))
         return 7;
     *units = units_above(row, states, budget);
     return 0;
@@ -451,7 +436,7 @@ int plain_above(const struct plain_state *row, size_t states, uint64_t budget, u
 int plain_smallest_budget(const struct plain_state *row, size_t states, uint64_t allowance, uint64_t *budget)
 {
     uint64_t tried = 0;
-    if (!is_table(row, states))
+    if (!plain_is_table(row, states))
         return 7;
     while (units_above(row, states, tried) > allowance)
         tried++;
@@ -462,7 +447,7 @@ int plain_smallest_budget(const struct plain_state *row, size_t states, uint64_t
 /* "the spread (units at each miss count from 0 to the largest present)" */
 int plain_spread(const struct plain_state *row, size_t states, uint64_t *counts, size_t room, uint64_t *largest)
 {
-    if (!is_table(row, states))
+    if (!plain_is_table(row, states))
         return 7;
     uint64_t last = largest_misses(row, states);
     if (room < last + 1)
@@ -475,12 +460,6 @@ int plain_spread(const struct plain_state *row, size_t states, uint64_t *counts,
 }
 
 /* ---- Section 7, the curve program ---- */
-
-/* The numbers of a text, and how many of them have been taken. */
-struct numbers {
-    uint32_t list[MOST_NUMBERS];
-    size_t count, taken;
-};
 
 static bool is_gap(unsigned char byte)
 {
@@ -513,7 +492,7 @@ static size_t read_number(const unsigned char *text, size_t bytes, size_t at, ui
 }
 
 /* "at most 65,536 bytes and 16,384 decimal numbers [...] separated by one or more spaces or newlines, which may also lead and trail" */
-static bool read_numbers(const unsigned char *text, size_t bytes, struct numbers *numbers)
+static bool read_numbers(const unsigned char *text, size_t bytes, struct plain_numbers *numbers)
 {
     size_t at = 0;
     numbers->count = 0;
@@ -525,7 +504,7 @@ static bool read_numbers(const unsigned char *text, size_t bytes, struct numbers
             at++;
             continue;
         }
-        if (numbers->count == MOST_NUMBERS)
+        if (numbers->count == PLAIN_NUMBERS)
             return false;
         size_t digits = read_number(text, bytes, at, &numbers->list[numbers->count]);
         if (digits == 0)
@@ -536,7 +515,7 @@ static bool read_numbers(const unsigned char *text, size_t bytes, struct numbers
     return true;
 }
 
-static bool take_number(struct numbers *numbers, uint32_t *number)
+static bool take_number(struct plain_numbers *numbers, uint32_t *number)
 {
     if (numbers->taken == numbers->count)
         return false;
@@ -545,7 +524,7 @@ static bool take_number(struct numbers *numbers, uint32_t *number)
 }
 
 /* A count, and then as many groups of `each` numbers as it says. */
-static bool take_list(struct numbers *numbers, size_t each, const uint32_t **list, size_t *length)
+static bool take_list(struct plain_numbers *numbers, size_t each, const uint32_t **list, size_t *length)
 {
     uint32_t count;
     if (!take_number(numbers, &count))
@@ -561,7 +540,7 @@ static bool take_list(struct numbers *numbers, size_t each, const uint32_t **lis
 
 /* "ways, K, tracked count, tracked blocks, node count, run lengths, access count, accesses, edge count, edges. Anything else, a missing
  * number or one left over gives 9." */
-static bool take_graph(struct numbers *numbers, struct graph *graph)
+static bool take_graph(struct plain_numbers *numbers, struct plain_input *graph)
 {
     return take_number(numbers, &graph->ways)
         && take_number(numbers, &graph->limit)
@@ -570,6 +549,11 @@ static bool take_graph(struct numbers *numbers, struct graph *graph)
         && take_list(numbers, 1, &graph->accesses, &graph->access_count)
         && take_list(numbers, 2, &graph->edges, &graph->edge_numbers)
         && numbers->taken == numbers->count;
+}
+
+bool plain_read(const unsigned char *text, size_t bytes, struct plain_numbers *numbers, struct plain_input *graph)
+{
+    return read_numbers(text, bytes, numbers) && take_graph(numbers, graph);
 }
 
 /* Puts a line behind what has been written; gives the new length. */
@@ -609,12 +593,12 @@ static size_t write_curve(unsigned char *output, const struct plain_state *row, 
 
 size_t plain_curve(const unsigned char *text, size_t bytes, unsigned char *output)
 {
-    struct numbers numbers;
-    struct graph graph;
+    struct plain_numbers numbers;
+    struct plain_input graph;
     struct plain_state row[MOST_STATES];
     size_t states;
     uint64_t aside;
-    if (!read_numbers(text, bytes, &numbers) || !take_graph(&numbers, &graph))
+    if (!plain_read(text, bytes, &numbers, &graph))
         return write_refusal(output, 9);
     int number = plain_graph(graph.ways, graph.limit, graph.tracked, graph.tracked_count, graph.runs, graph.nodes,
                              graph.accesses, graph.access_count, graph.edges, graph.edge_numbers,

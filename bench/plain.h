@@ -3,18 +3,39 @@
 #ifndef PLAIN_H
 #define PLAIN_H
 
+#include <stdbool.h>
 #include <stddef.h>
 #include <stdint.h>
 
 /* Certainty, in units. */
 #define PLAIN_WHOLE ((uint64_t)1 << 48)
 
-/* Room that is long enough for every output of plain_curve. */
+/* Room that is long enough for every output of plain_curve, and the most numbers that a text may have. */
 #define PLAIN_OUTPUT_BYTES 262144
+#define PLAIN_NUMBERS 16384
 
 /* A state: the contents mask, the misses and the units. */
 struct plain_state {
     uint64_t mask, misses, units;
+};
+
+/* What comes in (section 2). */
+struct plain_input {
+    uint32_t ways, limit;
+    const uint32_t *tracked;
+    size_t tracked_count;
+    const uint32_t *runs;
+    size_t nodes;
+    const uint32_t *accesses;
+    size_t access_count;
+    const uint32_t *edges;
+    size_t edge_numbers;
+};
+
+/* The numbers of a text, and how many of them have been taken. */
+struct plain_numbers {
+    uint32_t list[PLAIN_NUMBERS];
+    size_t count, taken;
 };
 
 /* The graph call. Gives 0, or the number of the first of the refusals 1 to 6 that applies, and then writes nothing. A room of so many
@@ -28,6 +49,9 @@ int plain_graph(uint32_t ways, uint32_t limit,
                 size_t result_words, size_t work_words,
                 struct plain_state *table, size_t *states, uint64_t *aside);
 
+/* Whether a row of states is a table (section 4). */
+bool plain_is_table(const struct plain_state *row, size_t states);
+
 /* The units at strictly more misses than the budget. Gives 0 or 7. */
 int plain_above(const struct plain_state *row, size_t states, uint64_t budget, uint64_t *units);
 
@@ -36,6 +60,9 @@ int plain_smallest_budget(const struct plain_state *row, size_t states, uint64_t
 
 /* The units at each miss count from 0 to the largest, in a room of so many counts, zero beyond them. Gives 0, 7 or 8. */
 int plain_spread(const struct plain_state *row, size_t states, uint64_t *counts, size_t room, uint64_t *largest);
+
+/* Reads a text (section 7) into its numbers, in which the lists of the input then lie. False if it is malformed. */
+bool plain_read(const unsigned char *text, size_t bytes, struct plain_numbers *numbers, struct plain_input *graph);
 
 /* What the curve program prints for this text, a refusal too: how many bytes of it there are in `output`. */
 size_t plain_curve(const unsigned char *text, size_t bytes, unsigned char *output);

@@ -1,8 +1,8 @@
-/* The estimate of instruction-cache misses, for C: the graph call, the questions put to a finished table, and the curve as text.
+/* The estimate of instruction-cache misses, for C: the graph call, the longest path, the questions put to a finished table, and curves as text.
  *
- * Every function ends with an answer or a refusal, whatever the numbers are. A refusal writes nothing, except that the curve's functions write it as a line of text.
+ * Every function ends with an answer or a refusal, whatever the numbers are. A refusal writes nothing, except that the functions for text write it as a line.
  * A stretch of memory is passed as a pointer and how many elements it has; an empty one may be NULL and 0. A pointer to one value (states, aside, units, budget,
- * largest) is never NULL, and what is lent for writing overlaps nothing else that is passed: these two things the caller has to see to.
+ * largest, longest, cycles) is never NULL, and what is lent for writing overlaps nothing else that is passed: these two things the caller has to see to.
  * Linked from libestimate_c.a, which uses no heap and no memory but what it is lent and the stack, and of the C library only memcpy and memset. */
 #ifndef ESTIMATE_H
 #define ESTIMATE_H
@@ -23,7 +23,8 @@
 /* A state is three words: the contents mask (bit i: the tracked block at place i is surely held), the misses, the units. */
 #define ESTIMATE_STATE_WORDS 3
 
-/* Rooms that are long enough whatever comes in: of a result, of the work, of a spread, of the numbers of a text, and of a curve's text. */
+/* Rooms that are long enough whatever comes in: of a result, of the work, of a spread, of the numbers of a text, of a curve's text,
+ * and of the text of the curves in cycles. */
 #define ESTIMATE_RESULT_WORDS 192
 #define ESTIMATE_WORK_WORDS 15552
 #define ESTIMATE_SPREAD_COUNTS 4097
@@ -34,7 +35,7 @@
 /* The cores in service, numbered from 0: a hit and a miss take (1,8) (1,10) (1,12) (1,20) (2,10) (2,16) (2,24) (2,40) (3,15) (3,30) (3,60) (4,100) cycles. */
 #define ESTIMATE_CORES 12
 
-/* What a function gives instead of ESTIMATE_DONE: the number of the first rule that is broken, as document 01 has them. */
+/* What a function gives instead of ESTIMATE_DONE: the number of the first rule that is broken, as documents 01 and 02 have them. */
 enum estimate_refusal {
     ESTIMATE_DONE = 0,
     ESTIMATE_WAYS = 1,        /* ways outside 1..16 */
@@ -62,7 +63,7 @@ uint64_t estimate_graph(uint32_t ways, uint32_t limit,
                         size_t *states, uint64_t *aside);
 
 /* The questions take the first `states` states of a table in words, as the graph call left it, or all that the words hold if there are fewer. Each gives
- * ESTIMATE_DONE, or ESTIMATE_ROW and writes nothing; estimate_spread may also give ESTIMATE_SPREAD_ROOM. */
+ * ESTIMATE_DONE or ESTIMATE_ROW, and estimate_spread may also give ESTIMATE_SPREAD_ROOM; a refusal writes nothing. */
 
 /* The units above a budget, at strictly more misses, go to `*units`. */
 uint64_t estimate_above(const uint64_t *table, size_t words, size_t states, uint64_t budget, uint64_t *units);
@@ -75,7 +76,7 @@ uint64_t estimate_smallest_budget(const uint64_t *table, size_t words, size_t st
 uint64_t estimate_spread(const uint64_t *table, size_t words, size_t states, uint64_t *counts, size_t counts_room, uint64_t *largest);
 
 /* The accesses of the longest path from the first node to the last go to `*longest`. Gives ESTIMATE_DONE, or the first of 1, 2, 3, 4, 5 that applies, as the graph
- * call does, and writes nothing. */
+ * call does; a refusal writes nothing. */
 uint64_t estimate_longest_path(uint32_t ways, uint32_t limit,
                                const uint32_t *tracked, size_t tracked_count,
                                const uint32_t *runs, size_t nodes,
@@ -85,7 +86,7 @@ uint64_t estimate_longest_path(uint32_t ways, uint32_t limit,
 
 /* The questions in cycles take a core and the longest path's accesses besides: a miss count stands for itself times the core's miss cycles plus the rest of those
  * accesses times its hit cycles. Each gives ESTIMATE_DONE, or the first that applies of ESTIMATE_NO_CORE, ESTIMATE_ACCESSES (a longest path above 4,096) and
- * ESTIMATE_ROW (no table, or a state with more misses than the longest path has accesses), and writes nothing. */
+ * ESTIMATE_ROW (no table, or a state with more misses than the longest path has accesses); a refusal writes nothing. */
 
 /* The units above a cycle budget, at strictly more cycles, go to `*units`. */
 uint64_t estimate_above_cycles(const uint64_t *table, size_t words, size_t states, size_t core, uint64_t longest, uint64_t budget, uint64_t *units);
@@ -110,7 +111,7 @@ size_t estimate_curve_of_numbers(const uint32_t *numbers, size_t count,
                                  uint64_t *counts, size_t counts_room,
                                  uint8_t *output, size_t output_bytes);
 
-/* The curves in cycles of a text of numbers, as the cycles program writes them, and of numbers: the same, in an output of ESTIMATE_CYCLES_OUTPUT_BYTES. */
+/* The curves in cycles, as the cycles program writes them: as the two functions above, but `output` has ESTIMATE_CYCLES_OUTPUT_BYTES. */
 size_t estimate_cycles_of_text(const uint8_t *text, size_t bytes,
                                uint32_t *numbers, size_t numbers_room,
                                uint64_t *result, size_t result_words,

@@ -13,9 +13,7 @@ use lib.Seq.{take-suc, append-snoc, set-at, take-at, drop-cons, getD-take, drop-
 use borrow.Author.Tests.{lt-ltb, le-ltb, eq-eqb, ne-eqb, ltb-true}
 use Rattle.basics.proofs.Bools.{and-left, and-right}
 use Rattle.rules.specs.declared.State.{State}
-use Rattle.rules.specs.declared.Order.{Order}
-use Rattle.rules.specs.declared.Order.the-variants.{Before as before, Same as same, After as after}
-use Rattle.rules.specs.Ordered.{byNumber, thenBy, insert, inserted, insertAll}
+use Rattle.rules.specs.Ordered.{Order, before, same, after, byNumber, thenBy, insert, inserted, insertAll}
 use Rattle.rules.specs.Table.{state, unitsOf, order, rising, plus, listed, add, stateAt}
 use Rattle.rules.specs.Shape.{Every}
 use Rattle.rules.proofs.Ordered.{number-cases, order-after}

@@ -5,9 +5,7 @@ use mathlib.Core.List.{List, [], _∷_}
 use Prim.Native.Nat.{ℕ, suc}
 use lib.ListN.{length, take}
 use Rattle.rules.specs.declared.State.{State}
-use Rattle.rules.specs.declared.Order.{Order}
-use Rattle.rules.specs.declared.Order.the-variants.{Before as before, Same as same, After as after}
-use Rattle.rules.specs.Ordered.{insert}
+use Rattle.rules.specs.Ordered.{Order, before, same, after, insert}
 use Rattle.rules.specs.Table.{order, plus, add}
 
 abbrev pub isAfter : Order → Bool

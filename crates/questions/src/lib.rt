@@ -1,5 +1,5 @@
-// Questions put to a finished table: document 01, section 4, and document 02, request 9/13. Each is asked of the first `states` states of a table in words,
-// or of all that there are: what the graph call left in its result room.
+// Questions put to a finished table: document 01, section 4, and document 02, request 9/13. Each is asked of the first `states` states of a table in
+// words, or of all that there are: what the graph call left in its result room.
 use crate::answers::above_of;
 use crate::answers::budget_of;
 use crate::answers::span;
@@ -22,6 +22,7 @@ mod states;
 mod sums;
 mod table;
 
+// The units above a budget: misses strictly greater.
 pub fn above_in(words: &[u64], states: usize, budget: u64) -> Amount
     ensures { λ r. ⌜ r ≡ aboveAnswer (take states (tableOf (now (words .entry)))) budget ⌝ }
 {
@@ -29,6 +30,7 @@ pub fn above_in(words: &[u64], states: usize, budget: u64) -> Amount
     above_of(&words[..end], budget)
 }
 
+// The smallest budget whose units above are at most `units`.
 pub fn smallest_budget_in(words: &[u64], states: usize, units: u64) -> Count
     ensures { λ r. ⌜ r ≡ budgetAnswer (take states (tableOf (now (words .entry)))) units ⌝ }
 {
@@ -36,6 +38,7 @@ pub fn smallest_budget_in(words: &[u64], states: usize, units: u64) -> Count
     budget_of(&words[..end], units)
 }
 
+// The units at each miss count from 0 to the largest present, which is the answer; `room` has zeros beyond it.
 pub fn spread_in(words: &[u64], states: usize, room: &mut [u64]) -> Count
     ensures { λ r. ⌜ record { answer = r; room = now (room .exit) } ≡ spreadAnswer (take states (tableOf (now (words .entry)))) (now (room .entry)) ⌝ }
 {
@@ -43,6 +46,7 @@ pub fn spread_in(words: &[u64], states: usize, room: &mut [u64]) -> Count
     spread_of(&words[..end], room)
 }
 
+// The units above a cycle budget, on the core of that number, where the longest path has `longest` accesses.
 pub fn above_cycles_in(
     words: &[u64],
     states: usize,
@@ -56,6 +60,7 @@ pub fn above_cycles_in(
     above_cycles_of(&words[..end], core, longest, budget)
 }
 
+// The smallest cycle budget whose units above are at most `units`, on that core.
 pub fn smallest_cycles_in(
     words: &[u64],
     states: usize,

@@ -1,6 +1,6 @@
 -- The walk of every question that is put to a lent row with some numbers: `fn f(row: &[State], p: u64, ..) -> E { ask(copy(row), p, ..) }`, where the
 -- answer E is an enum; a `usize` is passed as a `u64` is. All but the walk is said for n numbers. The walk is written out for one number and for three:
--- only the positions of the locals are others.
+-- only the positions of the locals differ.
 --     slots, spells, tells, stays, goes    n parameters that are numbers: what a signature and a walk ask of them
 --     Form                 a question: its answer, of the states and the numbers, and the name of `ask`
 --     Ask, Question        the signatures of `ask` and of the question

@@ -12,6 +12,7 @@ use Rattle.rows.specs.declared.row.Held.{Held}
 abbrev pub statesOf : Held → List State
 statesOf h = take (h .states) (tableOf (h .words))
 
+-- no state is held
 abbrev pub nothingHeld : Held
 nothingHeld = record { states = 0; words = replicate 195 0 }
 
@@ -24,5 +25,6 @@ abbrev pub moreOf : Held → List State → Held
 moreOf h [] = h
 moreOf h (s ∷ row) = moreOf (oneMore h s) row
 
+-- the states of a row, as far as there is room
 abbrev pub copied : List State → Held
 copied row = moreOf nothingHeld row

@@ -1,4 +1,4 @@
-// The questions of a finished table, asked of a lent row of states.
+// The questions put to a finished table, asked of a lent row of states: each is `ask(copy(row), ..)`.
 use crate::row::above_cycles_held;
 use crate::row::above_held;
 use crate::row::budget_held;

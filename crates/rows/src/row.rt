@@ -19,6 +19,7 @@ pub(crate) struct Held {
     pub words: [u64; 195],
 }
 
+// No state is held.
 pub(crate) fn nothing() -> Held
     ensures { λ r. ⌜ r ≡ nothingHeld ⌝ }
 {
@@ -58,6 +59,7 @@ pub(crate) fn copy(row: &[State]) -> Held
     held
 }
 
+// What is held is asked the units above a budget.
 pub(crate) fn above_held(held: Held, budget: u64) -> Amount
     ensures { λ r. ⌜ r ≡ aboveAnswer (statesOf held) budget ⌝ }
 {
@@ -65,6 +67,7 @@ pub(crate) fn above_held(held: Held, budget: u64) -> Amount
     above_in(&words, held.states, budget)
 }
 
+// The smallest budget.
 pub(crate) fn budget_held(held: Held, units: u64) -> Count
     ensures { λ r. ⌜ r ≡ budgetAnswer (statesOf held) units ⌝ }
 {
@@ -72,6 +75,7 @@ pub(crate) fn budget_held(held: Held, units: u64) -> Count
     smallest_budget_in(&words, held.states, units)
 }
 
+// The spread.
 pub(crate) fn spread_held(held: Held, room: &mut [u64]) -> Count
     ensures { λ r. ⌜ record { answer = r; room = now (room .exit) } ≡ spreadAnswer (statesOf held) (now (room .entry)) ⌝ }
 {
@@ -79,6 +83,7 @@ pub(crate) fn spread_held(held: Held, room: &mut [u64]) -> Count
     spread_in(&words, held.states, room)
 }
 
+// The units above a cycle budget.
 pub(crate) fn above_cycles_held(held: Held, core: usize, longest: u64, budget: u64) -> Amount
     ensures { λ r. ⌜ r ≡ aboveCyclesAnswer (statesOf held) core longest budget ⌝ }
 {
@@ -86,6 +91,7 @@ pub(crate) fn above_cycles_held(held: Held, core: usize, longest: u64, budget: u
     above_cycles_in(&words, held.states, core, longest, budget)
 }
 
+// The smallest cycle budget.
 pub(crate) fn cycle_budget_held(held: Held, core: usize, longest: u64, units: u64) -> Time
     ensures { λ r. ⌜ r ≡ cycleBudgetAnswer (statesOf held) core longest units ⌝ }
 {

@@ -63,13 +63,6 @@ pub enum Place {
     Untracked,
 }
 
-// How one stands to another in a table's order.
-pub enum Order {
-    Before,
-    Same,
-    After,
-}
-
 // Whether one with the numbers `a` and `b` stands before one with `c` and `d`: by the first, and where that is the same by the second.
 pub fn precedes(a: u64, b: u64, c: u64, d: u64) -> bool
     ensures { λ r. ⌜ r ≡ isBefore (thenBy (byNumber a c) (byNumber b d)) ⌝ }

@@ -1,12 +1,13 @@
 -- `fewest_cycles` meets its contract: 0 where every unit may be above, and otherwise the cycles of the smallest miss budget.
 use native.Mathlib.Nat.{le-of-eq}
+use native.Mathlib.Omega.{arith}
 use borrow.Author.Needs.{needs}
 use Rattle.questions.proofs.InCycles.{totals-whole, cycles-fit, some-needed, none-needed}
 use Rattle.questions.proofs.cycles.fewest_cycles.Statement.{statement}
 use Rattle.questions.proofs.cycles.fewest_cycles.Tie as tie
 
 returns : tie.Need-returns
-returns c = none-needed _ _ _ (c .before .before .before .pre) _ (c .if1 .taken)
+returns c = none-needed _ _ _ (c .before .before .before .pre) _ (omega (arith, c .if1 .taken))
 
 smallest-requires : tie.Need-smallest-requires
 smallest-requires c κs = le-of-eq (totals-whole _ _ _ (c .before .before .before .before .pre))
@@ -17,7 +18,7 @@ cycles-of-requires c κs = cycles-fit _ _ _ (c .before .before .before .before .
 returns-2 : tie.Need-returns-2
 returns-2 c =
     let l = c .before .before in
-    some-needed _ _ _ (l .before .before .before .before .pre) _ (l .core-at .ensures) _ _ (c .before .smallest .ensures) (l .before .if1 .left) _ (c .cycles-of .ensures)
+    some-needed _ _ _ (l .before .before .before .before .pre) _ (l .core-at .ensures) _ _ (c .before .smallest .ensures) (omega (arith, l .before .if1 .left)) _ (c .cycles-of .ensures)
 
 pub fewest-cycles-spec : {M : Type 1} → statement M
 fewest-cycles-spec = tie.close (tie.spec returns (λ c κs. search needs) smallest-requires cycles-of-requires returns-2)
