@@ -4,7 +4,7 @@ use mathlib.Core.Bool.{true}
 use mathlib.Core.List.{List, [], _∷_, _++_, append-nil}
 use Prim.Native.Nat.{ℕ, zero, suc, _+_, _-_, _*_, _≤_, _<_}
 use native.Mathlib.Omega.{arith}
-use lib.ListN.{length, take, drop, length-append, length-drop, drop-of-length-le}
+use lib.ListN.{length, take, drop, length-drop, drop-of-length-le}
 use lib.Seq.{take-all, take-at, take-take, drop-at, getD-take, getD-drop, length-take-le}
 use Rattle.rules.specs.declared.State.{State}
 use Rattle.rules.specs.Table.{state, rising, add, stateAt}
@@ -51,13 +51,9 @@ module _ (ws : List ℕ) (base : ℕ) where
     back-all : backFrom (base * 3) ws ys ≡ take (base * 3) ws ++ ys
     back-all = rw (drop-of-length-le (drop (base * 3) ws) {i = length ws - base * 3} (omega (arith, length-drop (base * 3) ws)), append-nil)
 
-    pub back-table : tableOf (backFrom (base * 3) ws ys) ≡ take base (tableOf ws) ++ tableOf ys
+    back-table : tableOf (backFrom (base * 3) ws ys) ≡ take base (tableOf ws) ++ tableOf ys
     back-table =
         ap tableOf back-all ∙ table-append (take (base * 3) ws) ys base (length-take-le (base * 3) ws l) ∙ ap (_++ tableOf ys) (table-take ws base)
-
-    pub back-long : length ys ≡ length (partFrom (base * 3) ws) → length (backFrom (base * 3) ws ys) ≡ length ws
-    back-long e =
-        ap length back-all ∙ length-append (take (base * 3) ws) ys ∙ omega (arith, e ∙ part-long, length-take-le (base * 3) ws l)
 
     pub back-slots : take base (tableOf (backFrom (base * 3) ws ys)) ≡ take base (tableOf ws)
     back-slots = ap (take base) back-table ∙ take-at (take base (tableOf ws)) (tableOf ys) base (length-take-le base (tableOf ws) (fits-table ws base l))

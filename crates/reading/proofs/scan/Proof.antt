@@ -2,6 +2,7 @@
 -- text comes to.
 use mathlib.Core.Path.{_≡_}
 use Prim.Native.Nat.{_-_, _≤_}
+use native.Mathlib.Omega.{arith}
 use borrow.Author.Needs.{needs}
 use denote.Ref.{now}
 use lib.ListN.{length, drop}
@@ -20,7 +21,7 @@ abbrev μ-loop : tie.MeasureT-loop
 returns : tie.Need-returns Inv-loop μ-loop
 returns c =
     let a = c .before .before .before .before .args in
-    rw (c .lost .ensures) (too-long (now (a .text)) (now (a .numbers)) (c .before .if1 .taken))
+    rw (c .lost .ensures) (too-long (now (a .text)) (now (a .numbers)) (omega (arith, c .before .if1 .taken)))
 
 loop-again : tie.Need-loop-again Inv-loop μ-loop
 loop-again c =
@@ -32,7 +33,7 @@ returns-2 c =
     let e = c .before .before in
     let t = e .before .before in
     let short = t .before .before in
-    found _ _ (short .before .before .before .pre) (short .if1 .left) _ _ (t .before .loop .inv .2) (t .loop-test .left) _ (e .end-number .ensures)
+    found _ _ (short .before .before .before .pre) (omega (arith, short .if1 .left)) _ _ (t .before .loop .inv .2) (t .loop-test .left) _ (e .end-number .ensures)
 
 pub scan-spec : {M : Type 1} → statement M
 scan-spec =
