@@ -8,7 +8,7 @@ use Rattle.rules.specs.Questions.{SpreadAnswer}
 use Rattle.estimate.specs.Call.{After}
 use Rattle.text.specs.declared.Written.{Written}
 use Rattle.text.specs.Rooms.{Rooms, AfterText, After as AfterNumbers}
-use Rattle.estimate_c.specs.Given.{outcomeGiven, graphGiven, spreadGiven, numbersGiven, textGiven}
+use Rattle.estimate_c.specs.Given.{outcomeGiven, graphGiven, spreadGiven, bytesOf, numbersGiven, textGiven}
 
 pub graph-given : {o p : Outcome} {result work : List ℕ} (a : After) (states aside : ℕ)
     → o ≡ p
@@ -24,15 +24,15 @@ pub spread-given : {o p : Count} {room : List ℕ} (a : SpreadAnswer) (value : �
 spread-given {room = room} a value told leaves =
     ap (λ q. spreadGiven (record { answer = q; room = room }) value) (sym told) ∙ ap (λ b. spreadGiven b value) leaves
 
-pub numbers-given : {o p : Written} {rooms : Rooms} (a : AfterNumbers)
-    → o ≡ p
+-- a text has n bytes, where the answer of its call says so
+pub numbers-given : {o : Written} {rooms : Rooms} (a : AfterNumbers) (n : ℕ)
+    → n ≡ bytesOf o
     → record { answer = o; rooms = rooms } ≡ a
-    → numbersGiven (record { answer = p; rooms = rooms }) ≡ numbersGiven a
-numbers-given {rooms = rooms} a told leaves = ap (λ q. numbersGiven (record { answer = q; rooms = rooms })) (sym told) ∙ ap numbersGiven leaves
+    → record { bytes = n; rooms = rooms } ≡ numbersGiven a
+numbers-given {rooms = rooms} a n said leaves = ap (λ b. record { bytes = b; rooms = rooms }) said ∙ ap numbersGiven leaves
 
-pub text-given : {o p : Written} {numbers : List ℕ} {rooms : Rooms} (a : AfterText)
-    → o ≡ p
+pub text-given : {o : Written} {numbers : List ℕ} {rooms : Rooms} (a : AfterText) (n : ℕ)
+    → n ≡ bytesOf o
     → record { answer = o; numbers = numbers; rooms = rooms } ≡ a
-    → textGiven (record { answer = p; numbers = numbers; rooms = rooms }) ≡ textGiven a
-text-given {numbers = numbers} {rooms = rooms} a told leaves =
-    ap (λ q. textGiven (record { answer = q; numbers = numbers; rooms = rooms })) (sym told) ∙ ap textGiven leaves
+    → record { bytes = n; numbers = numbers; rooms = rooms } ≡ textGiven a
+text-given {numbers = numbers} {rooms = rooms} a n said leaves = ap (λ b. record { bytes = b; numbers = numbers; rooms = rooms }) said ∙ ap textGiven leaves

@@ -26,7 +26,7 @@ ghost use Rattle.rules.specs.Questions.{aboveAnswer, budgetAnswer, spreadAnswer
 ghost use Rattle.words.specs.Tables.{tableOf};
 ghost use Rattle.estimate.specs.Call.{analysed};
 ghost use Rattle.text.specs.Rooms.{afterNumbers, afterText, afterCyclesOfNumbers, afterCyclesOfText};
-ghost use Rattle.estimate_c.specs.Given.{graphGiven, amountGiven, countGiven, timeGiven, lengthGiven, spreadGiven, numbersGiven, textGiven};
+ghost use Rattle.estimate_c.specs.Given.{graphGiven, amountGiven, countGiven, timeGiven, lengthGiven, spreadGiven, bytesOf, numbersGiven, textGiven};
 
 // The graph call.
 #[no_mangle]
@@ -170,6 +170,16 @@ pub extern "C" fn estimate_smallest_cycles(
     }
 }
 
+// How many bytes were written: 0 where a room is too short.
+fn bytes_of(written: Written) -> usize
+    ensures { λ r. ⌜ r ≡ bytesOf written ⌝ }
+{
+    match written {
+        Written::Bytes(n) => n,
+        Written::NoRoom => 0,
+    }
+}
+
 // The curve of a text.
 #[no_mangle]
 pub extern "C" fn estimate_curve_of_text(
@@ -182,10 +192,7 @@ pub extern "C" fn estimate_curve_of_text(
 ) -> usize
     ensures { λ r. ⌜ record { bytes = r; numbers = now (numbers .exit); rooms = record { result = now (result .exit); work = now (work .exit); counts = now (counts .exit); output = now (output .exit) } } ≡ textGiven (afterText (now (text .entry)) (now (numbers .entry)) (record { result = now (result .entry); work = now (work .entry); counts = now (counts .entry); output = now (output .entry) })) ⌝ }
 {
-    match curve_of_text(text, numbers, result, work, counts, output) {
-        Written::Bytes(n) => n,
-        Written::NoRoom => 0,
-    }
+    bytes_of(curve_of_text(text, numbers, result, work, counts, output))
 }
 
 // The curve of numbers in the curve's order.
@@ -199,10 +206,7 @@ pub extern "C" fn estimate_curve_of_numbers(
 ) -> usize
     ensures { λ r. ⌜ record { bytes = r; rooms = record { result = now (result .exit); work = now (work .exit); counts = now (counts .exit); output = now (output .exit) } } ≡ numbersGiven (afterNumbers (now (numbers .entry)) (record { result = now (result .entry); work = now (work .entry); counts = now (counts .entry); output = now (output .entry) })) ⌝ }
 {
-    match curve_of_numbers(numbers, result, work, counts, output) {
-        Written::Bytes(n) => n,
-        Written::NoRoom => 0,
-    }
+    bytes_of(curve_of_numbers(numbers, result, work, counts, output))
 }
 
 // The curves in cycles of a text.
@@ -217,10 +221,7 @@ pub extern "C" fn estimate_cycles_of_text(
 ) -> usize
     ensures { λ r. ⌜ record { bytes = r; numbers = now (numbers .exit); rooms = record { result = now (result .exit); work = now (work .exit); counts = now (counts .exit); output = now (output .exit) } } ≡ textGiven (afterCyclesOfText (now (text .entry)) (now (numbers .entry)) (record { result = now (result .entry); work = now (work .entry); counts = now (counts .entry); output = now (output .entry) })) ⌝ }
 {
-    match cycles_of_text(text, numbers, result, work, counts, output) {
-        Written::Bytes(n) => n,
-        Written::NoRoom => 0,
-    }
+    bytes_of(cycles_of_text(text, numbers, result, work, counts, output))
 }
 
 // The curves in cycles of numbers in the curve's order.
@@ -234,8 +235,5 @@ pub extern "C" fn estimate_cycles_of_numbers(
 ) -> usize
     ensures { λ r. ⌜ record { bytes = r; rooms = record { result = now (result .exit); work = now (work .exit); counts = now (counts .exit); output = now (output .exit) } } ≡ numbersGiven (afterCyclesOfNumbers (now (numbers .entry)) (record { result = now (result .entry); work = now (work .entry); counts = now (counts .entry); output = now (output .entry) })) ⌝ }
 {
-    match cycles_of_numbers(numbers, result, work, counts, output) {
-        Written::Bytes(n) => n,
-        Written::NoRoom => 0,
-    }
+    bytes_of(cycles_of_numbers(numbers, result, work, counts, output))
 }

@@ -2,6 +2,7 @@
 use rules::Amount;
 use rules::Count;
 use rules::Length;
+use rules::Refusal;
 use rules::Time;
 
 // A refusal's number and 0, or 0 and the value.
@@ -10,54 +11,41 @@ pub(crate) struct Said {
     pub value: u64,
 }
 
+fn value_said(value: u64) -> Said {
+    Said { refusal: 0, value }
+}
+
+fn refusal_said(why: Refusal) -> Said {
+    Said {
+        refusal: why.number(),
+        value: 0,
+    }
+}
+
 pub(crate) fn amount_said(answer: Amount) -> Said {
     match answer {
-        Amount::Units(units) => Said {
-            refusal: 0,
-            value: units.0,
-        },
-        Amount::Refused(why) => Said {
-            refusal: why.number(),
-            value: 0,
-        },
+        Amount::Units(units) => value_said(units.0),
+        Amount::Refused(why) => refusal_said(why),
     }
 }
 
 pub(crate) fn count_said(answer: Count) -> Said {
     match answer {
-        Count::Misses(misses) => Said {
-            refusal: 0,
-            value: misses,
-        },
-        Count::Refused(why) => Said {
-            refusal: why.number(),
-            value: 0,
-        },
+        Count::Misses(misses) => value_said(misses),
+        Count::Refused(why) => refusal_said(why),
     }
 }
 
 pub(crate) fn time_said(answer: Time) -> Said {
     match answer {
-        Time::Cycles(cycles) => Said {
-            refusal: 0,
-            value: cycles,
-        },
-        Time::Refused(why) => Said {
-            refusal: why.number(),
-            value: 0,
-        },
+        Time::Cycles(cycles) => value_said(cycles),
+        Time::Refused(why) => refusal_said(why),
     }
 }
 
 pub(crate) fn length_said(answer: Length) -> Said {
     match answer {
-        Length::Accesses(accesses) => Said {
-            refusal: 0,
-            value: accesses,
-        },
-        Length::Refused(why) => Said {
-            refusal: why.number(),
-            value: 0,
-        },
+        Length::Accesses(accesses) => value_said(accesses),
+        Length::Refused(why) => refusal_said(why),
     }
 }

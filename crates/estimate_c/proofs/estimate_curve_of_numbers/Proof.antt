@@ -5,25 +5,16 @@ use Rattle.estimate_c.proofs.estimate_curve_of_numbers.Statement.{state
 use Rattle.estimate_c.proofs.estimate_curve_of_numbers.Tie as tie
 
 returns : tie.Need-returns
-returns c = numbers-given _ (c .before .n .given .1) (c .before .before .before .before .before .before .before .before .before .before .before .curve-of-numbers .ensures)
-
-returns-2 : tie.Need-returns-2
-returns-2 c = numbers-given _ (c .enum-told .given .1) (c .before .before .before .before .before .before .before .before .before .before .curve-of-numbers .ensures)
+returns c = numbers-given _ _ (c .bytes-of .ensures) (c .before .before .before .before .before .before .before .before .before .curve-of-numbers .ensures)
 
 pub estimate-curve-of-numbers-spec : {M : Type 1} → statement M
 estimate-curve-of-numbers-spec =
     tie.close
     (tie.spec
     (λ c κs. search needs)
+    (λ c κs. search needs)
     (λ c. search needs)
     (λ c. search needs)
     (λ c. search needs)
     (λ c. search needs)
-    (λ c. search needs)
-    (λ c. search needs)
-    returns
-    (λ c. search needs)
-    (λ c. search needs)
-    (λ c. search needs)
-    (λ c. search needs)
-    returns-2)
+    returns)

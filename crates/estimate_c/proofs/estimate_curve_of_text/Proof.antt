@@ -5,27 +5,17 @@ use Rattle.estimate_c.proofs.estimate_curve_of_text.Statement.{statemen
 use Rattle.estimate_c.proofs.estimate_curve_of_text.Tie as tie
 
 returns : tie.Need-returns
-returns c = text-given _ (c .before .n .given .1) (c .before .before .before .before .before .before .before .before .before .before .before .before .before .curve-of-text .ensures)
-
-returns-2 : tie.Need-returns-2
-returns-2 c = text-given _ (c .enum-told .given .1) (c .before .before .before .before .before .before .before .before .before .before .before .before .curve-of-text .ensures)
+returns c = text-given _ _ (c .bytes-of .ensures) (c .before .before .before .before .before .before .before .before .before .before .before .curve-of-text .ensures)
 
 pub estimate-curve-of-text-spec : {M : Type 1} → statement M
 estimate-curve-of-text-spec =
     tie.close
     (tie.spec
     (λ c κs. search needs)
+    (λ c κs. search needs)
     (λ c. search needs)
     (λ c. search needs)
     (λ c. search needs)
     (λ c. search needs)
     (λ c. search needs)
-    (λ c. search needs)
-    (λ c. search needs)
-    returns
-    (λ c. search needs)
-    (λ c. search needs)
-    (λ c. search needs)
-    (λ c. search needs)
-    (λ c. search needs)
-    returns-2)
+    returns)

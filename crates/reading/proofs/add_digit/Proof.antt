@@ -1,5 +1,6 @@
 -- `add_digit` meets its contract: each early return is one test of the definition that fails.
 use mathlib.Core.Path.{sym, _∙_}
+use native.Mathlib.Omega.{arith}
 use borrow.Author.Needs.{needs}
 use borrow.Author.Tests.{not-true, not-false}
 use Rattle.reading.proofs.Steps.{digit-least, ten-already, no-digit, too-large, digit-more}
@@ -21,13 +22,13 @@ returns-3 : tie.Need-returns-3
 returns-3 c =
     let digit = c .before .before .before in
     let few = digit .before .before in
-    c .lost3 .ensures ∙ too-large _ _ (few .if1 .left) (sym (digit .before .is-digit .ensures) ∙ not-false _ (digit .if2 .left)) (c .before .if3 .taken)
+    c .lost3 .ensures ∙ too-large _ _ (few .if1 .left) (sym (digit .before .is-digit .ensures) ∙ not-false _ (digit .if2 .left)) (omega (arith, c .before .if3 .taken))
 
 returns-4 : tie.Need-returns-4
 returns-4 c =
     let digit = c .before .before .before in
     let few = digit .before .before in
-    digit-more _ _ (few .if1 .left) (sym (digit .before .is-digit .ensures) ∙ not-false _ (digit .if2 .left)) (c .before .if3 .left)
+    digit-more _ _ (few .if1 .left) (sym (digit .before .is-digit .ensures) ∙ not-false _ (digit .if2 .left)) (omega (arith, c .before .if3 .left))
 
 pub add-digit-spec : {M : Type 1} → statement M
 add-digit-spec =
