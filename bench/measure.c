@@ -2,7 +2,7 @@
  * table; `measure NAME ours|plain [TIMES]` makes only that call, so many times, for a profiler. CPU time, best of several. */
 #define _POSIX_C_SOURCE 199309L /* clock_gettime */
 
-#include <math.h>
+#include <float.h>
 #include <stdbool.h>
 #include <stdio.h>
 #include <stdlib.h>
@@ -71,16 +71,34 @@ static unsigned choose_times(graph_call *call, const struct input *input, struct
     return once >= LEAST_MS ? 1 : (unsigned)(LEAST_MS / (once > 0.01 ? once : 0.01)) + 1;
 }
 
+static double smaller(double a, double b)
+{
+    return b < a ? b : a;
+}
+
+/* The positive number whose power is `product`, by halves: no log and exp, since a static libm cannot be linked everywhere. */
+static double root(double product, unsigned power)
+{
+    double low = 0, high = product > 1 ? product : 1;
+    for (int half = 0; half < 200; half++) {
+        double middle = (low + high) / 2, raised = 1;
+        for (unsigned i = 0; i < power; i++)
+            raised *= middle;
+        *(raised < product ? &low : &high) = middle;
+    }
+    return high;
+}
+
 /* Measures both in turns; false if their results are not the same accepted one. */
 static bool measure_both(const struct input *input, double *ours, double *plain)
 {
     static struct outcome our_outcome, plain_outcome;
     unsigned our_times = choose_times(call_ours, input, &our_outcome);
     unsigned plain_times = choose_times(call_plain, input, &plain_outcome);
-    *ours = *plain = INFINITY;
+    *ours = *plain = DBL_MAX;
     for (int i = 0; i < MEASUREMENTS; i++) {
-        *ours = fmin(*ours, time_calls(call_ours, input, &our_outcome, our_times));
-        *plain = fmin(*plain, time_calls(call_plain, input, &plain_outcome, plain_times));
+        *ours = smaller(*ours, time_calls(call_ours, input, &our_outcome, our_times));
+        *plain = smaller(*plain, time_calls(call_plain, input, &plain_outcome, plain_times));
     }
     return our_outcome.refusal == 0 && memcmp(&our_outcome, &plain_outcome, sizeof our_outcome) == 0;
 }
@@ -88,7 +106,7 @@ static bool measure_both(const struct input *input, double *ours, double *plain)
 /* The heavy inputs, a line each, then the mean and the worst of their ratios; false if a result differs. */
 static bool measure_heavy(struct input *input, double *mean, double *worst, const char **worst_name)
 {
-    double logarithms = 0, ours, plain;
+    double product = 1, ours, plain;
     bool equal = true;
     *worst = 0;
     printf("%-18s %10s %10s %7s\n", "input", "ours ms", "plain ms", "ratio");
@@ -98,13 +116,13 @@ static bool measure_heavy(struct input *input, double *mean, double *worst, cons
         printf("%-18s %10.3f %10.3f %7.2f%s\n", name, ours, plain, ours / plain, same ? "" : "  RESULTS DIFFER");
         fflush(stdout);
         equal = equal && same;
-        logarithms += log(ours / plain);
+        product *= ours / plain;
         if (ours / plain > *worst) {
             *worst = ours / plain;
             *worst_name = name;
         }
     }
-    *mean = exp(logarithms / HEAVY_INPUTS);
+    *mean = root(product, HEAVY_INPUTS);
     return equal;
 }
 

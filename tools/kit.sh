@@ -27,12 +27,33 @@ library() {
     build 'the library for C' staticlib/libestimate_c.a staticlib estimate_c
 }
 
-# a C compiler for x86-64: Debian's own, or its cross compiler
+# CC: whether it makes programs for x86-64 that have the C library in them
+compiles() {
+    local made
+    command -v "$1" >/dev/null || return 1
+    made=$(mktemp)
+    echo 'int main(void) { return 0; }' | "$1" -static -xc - -o "$made" 2>/dev/null
+    local status=$?
+    rm -f "$made"
+    return $status
+}
+
+# prints the C compiler for x86-64, Debian's own or its cross compiler; where there is none it is installed if that may be done here (root, apt), and otherwise the
+# packages that have it are named
 compiler() {
-    local cc=gcc package=gcc
-    [ "$(uname -m)" = x86_64 ] || cc=x86_64-linux-gnu-gcc package=gcc-x86-64-linux-gnu
-    command -v "$cc" || {
-        echo "a C compiler for x86-64 is needed: apt-get install $package" >&2
+    local cc=gcc packages='gcc libc6-dev'
+    [ "$(uname -m)" = x86_64 ] || cc=x86_64-linux-gnu-gcc packages='gcc-x86-64-linux-gnu libc6-dev-amd64-cross'
+    if ! compiles "$cc" && [ "$(id -u)" = 0 ] && command -v apt-get >/dev/null; then
+        echo "installing a C compiler for x86-64: apt-get install $packages" >&2
+        # shellcheck disable=SC2086
+        { apt-get install -y -q $packages || { apt-get update -q && apt-get install -y -q $packages; }; } >&2
+    fi
+    compiles "$cc" || {
+        echo "a C compiler for x86-64 is needed: apt-get install $packages" >&2
         return 1
     }
+    echo "$cc"
 }
+
+# the status of a command that could not build what it is to run: another one than that of a program which gives other answers than expected
+unbuilt=3
