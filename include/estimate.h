@@ -1,6 +1,7 @@
 /* The estimate of instruction-cache misses, for C: the graph call, the longest path, the questions put to a finished table, and curves as text.
  *
- * Every function ends with an answer or a refusal, whatever the numbers are. A refusal writes nothing, except that the functions for text write it as a line.
+ * Every function ends with an answer or a refusal, whatever the numbers are. A refusal writes nothing; the functions for curves write it as a line of text, and leave
+ * all other rooms as they were but the room for a text's numbers, which is zero afterwards.
  * A stretch of memory is passed as a pointer and how many elements it has; an empty one may be NULL and 0. A pointer to one value (states, aside, units, budget,
  * largest, longest, cycles) is never NULL, and what is lent for writing overlaps nothing else that is passed: these two things the caller has to see to.
  * Linked from libestimate_c.a, which uses no heap and no memory but what it is lent and the stack, and of the C library only memcpy and memset. */
@@ -95,7 +96,8 @@ uint64_t estimate_above_cycles(const uint64_t *table, size_t words, size_t state
 uint64_t estimate_smallest_cycles(const uint64_t *table, size_t words, size_t states, size_t core, uint64_t longest, uint64_t allowance, uint64_t *cycles);
 
 /* The curve of a text of numbers, as the curve program writes it, a refusal too: it goes to the front of `output`, whose rest stays as it was. Gives how many
- * bytes that are, at least one; all other rooms are then zero. Gives 0 and writes nothing if a room is shorter than its constant above. */
+ * bytes that are, at least one. `numbers` is then zero; so are `result`, `work` and `counts`, unless the text is a refusal, which leaves these three as they were. Gives
+ * 0 and writes nothing if a room is shorter than its constant above. */
 size_t estimate_curve_of_text(const uint8_t *text, size_t bytes,
                               uint32_t *numbers, size_t numbers_room,
                               uint64_t *result, size_t result_words,

@@ -1,5 +1,5 @@
 -- What an accepted call leaves can be asked: the first states of the result room, as many as the answer says, are the finished table, which is
--- a table by section 4, so that no question refuses it.
+-- a table by section 4, so that no question refuses it. The working room is then zero; a refused call leaves both rooms as they were.
 use mathlib.Core.Path.{_≡_, refl, sym, ap, _∙_}
 use mathlib.Core.Bool.{true}
 use mathlib.Core.List.{List}
@@ -9,6 +9,8 @@ use lib.ListN.{length, take, replicate}
 use Rattle.rules.specs.declared.Verdict.{Verdict}
 use Rattle.rules.specs.declared.Verdict.the-variants.{Accepted, Refused}
 use Rattle.rules.specs.declared.Outcome.{Outcome}
+use Rattle.rules.specs.declared.Outcome.the-variants.{Refused as RefusedOutcome}
+use Rattle.rules.specs.declared.Refusal.{Refusal}
 use Rattle.rules.specs.Answers.{OutcomeSays, outcomeSays}
 use Rattle.rules.specs.Input.{Input, inputOf}
 use Rattle.rules.specs.Table.{Work}
@@ -36,6 +38,23 @@ module _ (i : Input) (rs ws : List ℕ) where
       go Accepted h = words-first (finished i .table) (replicate (length rs - length (finished i .table) * 3) 0)
       go (Refused r) h = absurd (numbered r h)
 
+  leaves-worked : outcomeSays (outcome i) .number ≡ 0 → leaves (verdict i) i rs ws .work ≡ replicate (length ws) 0
+  unfolding outcome
+  leaves-worked h = go (verdict i) h
+    where
+      go : (v : Verdict) → outcomeSays (answered v i) .number ≡ 0 → leaves v i rs ws .work ≡ replicate (length ws) 0
+      go Accepted h = refl
+      go (Refused r) h = absurd (numbered r h)
+
+  leaves-refused : (why : Refusal) → outcome i ≡ RefusedOutcome why
+      → (leaves (verdict i) i rs ws .result ≡ rs) × (leaves (verdict i) i rs ws .work ≡ ws)
+  unfolding outcome
+  leaves-refused why e = go (verdict i) e
+    where
+      go : (v : Verdict) → answered v i ≡ RefusedOutcome why → (leaves v i rs ws .result ≡ rs) × (leaves v i rs ws .work ≡ ws)
+      go Accepted e = absurd (numbered why (sym (ap (λ (q : Outcome). outcomeSays q .number) e)))
+      go (Refused r) e = (refl, refl)
+
 module _ (N K : ℕ) (ts ns bs es rs ws : List ℕ) where
   -- what the call leaves, and what its answer says
   abbrev left : After
@@ -59,11 +78,17 @@ module _ (N K : ℕ) (ts ns bs es rs ws : List ℕ) where
 -- with room for every state limit, the call answers and leaves what the definitions say of an input with just the room that is needed
 module _ (N K : ℕ) (ts ns bs es rs ws : List ℕ) (result : 192 ≤ length rs) (working : 15552 ≤ length ws) (a : Outcome) (rs′ ws′ : List ℕ)
     (is : record { answer = a; result = rs′; work = ws′ } ≡ analysed N K ts ns bs es rs ws) where
-  pub call-answers : a ≡ outcome (inputOf N K ts ns bs es)
+  abbrev i : Input
+  i = handed N K ts ns bs es rs ws
+
+  -- the answer is that of the input with the rooms as they are
+  answers-handed : a ≡ outcome i
   unfolding analysed
+  answers-handed = ap (λ (f : After). f .answer) is ∙ leaves-outcome i rs ws (verdict i)
+
+  pub call-answers : a ≡ outcome (inputOf N K ts ns bs es)
   call-answers =
-      ap (λ (f : After). f .answer) is
-      ∙ leaves-outcome (handed N K ts ns bs es rs ws) rs ws (verdict (handed N K ts ns bs es rs ws))
+      answers-handed
       ∙ sym (same-outcome N K ts ns bs es (length rs / 3) (length ws / 3) (omega arith) (omega arith))
 
   pub call-finishes : outcomeSays a .number ≡ 0 → take (outcomeSays a .states) (tableOf rs′) ≡ finished (inputOf N K ts ns bs es) .table
@@ -71,3 +96,13 @@ module _ (N K : ℕ) (ts ns bs es rs ws : List ℕ) (result : 192 ≤ length rs)
       ap (λ (f : After). take (outcomeSays (f .answer) .states) (tableOf (f .result))) is
       ∙ result-finished N K ts ns bs es rs ws (sym (ap (λ (f : After). outcomeSays (f .answer) .number) is) ∙ h)
       ∙ ap (λ (w : Work). w .table) (sym (same-finished N K ts ns bs es (length rs / 3) (length ws / 3)))
+
+  pub call-clears : outcomeSays a .number ≡ 0 → ws′ ≡ replicate (length ws) 0
+  unfolding analysed
+  call-clears h = ap (λ (f : After). f .work) is ∙ leaves-worked i rs ws (sym (ap (λ (q : Outcome). outcomeSays q .number) answers-handed) ∙ h)
+
+  pub call-refuses : (why : Refusal) → a ≡ RefusedOutcome why → (rs′ ≡ rs) × (ws′ ≡ ws)
+  unfolding analysed
+  call-refuses why e =
+      let kept = leaves-refused i rs ws why (sym answers-handed ∙ e) in
+      (ap (λ (f : After). f .result) is ∙ kept .0, ap (λ (f : After). f .work) is ∙ kept .1)

@@ -7,7 +7,7 @@ use Rattle.rules.specs.declared.Outcome.{Outcome}
 use Rattle.rules.specs.Questions.{SpreadAnswer}
 use Rattle.estimate.specs.Call.{After}
 use Rattle.text.specs.declared.Written.{Written}
-use Rattle.text.specs.Rooms.{Rooms, AfterText, After as AfterNumbers}
+use Rattle.text.specs.Rooms.{Rooms, NumbersWritten, TextWritten}
 use Rattle.estimate_c.specs.Given.{outcomeGiven, graphGiven, spreadGiven, bytesOf, numbersGiven, textGiven}
 
 pub graph-given : {o p : Outcome} {result work : List ℕ} (a : After) (states aside : ℕ)
@@ -25,13 +25,13 @@ spread-given {room = room} a value told leaves =
     ap (λ q. spreadGiven (record { answer = q; room = room }) value) (sym told) ∙ ap (λ b. spreadGiven b value) leaves
 
 -- a text has n bytes, where the answer of its call says so
-pub numbers-given : {o : Written} {rooms : Rooms} (a : AfterNumbers) (n : ℕ)
+pub numbers-given : {o : Written} {rooms : Rooms} (a : NumbersWritten) (n : ℕ)
     → n ≡ bytesOf o
     → record { answer = o; rooms = rooms } ≡ a
     → record { bytes = n; rooms = rooms } ≡ numbersGiven a
 numbers-given {rooms = rooms} a n said leaves = ap (λ b. record { bytes = b; rooms = rooms }) said ∙ ap numbersGiven leaves
 
-pub text-given : {o : Written} {numbers : List ℕ} {rooms : Rooms} (a : AfterText) (n : ℕ)
+pub text-given : {o : Written} {numbers : List ℕ} {rooms : Rooms} (a : TextWritten) (n : ℕ)
     → n ≡ bytesOf o
     → record { answer = o; numbers = numbers; rooms = rooms } ≡ a
     → record { bytes = n; numbers = numbers; rooms = rooms } ≡ textGiven a

@@ -17,7 +17,7 @@ use Rattle.rules.specs.Questions.{SpreadAnswer}
 use Rattle.estimate.specs.Call.{After}
 use Rattle.text.specs.declared.Written.{Written}
 use Rattle.text.specs.declared.Written.the-variants.{Bytes, NoRoom}
-use Rattle.text.specs.Rooms.{Rooms, AfterText, After as AfterNumbers}
+use Rattle.text.specs.Rooms.{Rooms, NumbersWritten, TextWritten}
 
 -- ---- the graph call: 0, or the refusal's number; how many states and how many units set aside; the two rooms
 
@@ -84,7 +84,7 @@ pub record NumbersGiven : Type 0 where
   pub rooms : Rooms
 
 -- of what the call for numbers leaves
-abbrev pub numbersGiven : AfterNumbers → NumbersGiven
+abbrev pub numbersGiven : NumbersWritten → NumbersGiven
 numbersGiven a = record { bytes = bytesOf (a .answer); rooms = a .rooms }
 
 pub record TextGiven : Type 0 where
@@ -93,5 +93,5 @@ pub record TextGiven : Type 0 where
   pub rooms : Rooms
 
 -- of what the call for a text leaves, with the room for numbers
-abbrev pub textGiven : AfterText → TextGiven
+abbrev pub textGiven : TextWritten → TextGiven
 textGiven a = record { bytes = bytesOf (a .answer); numbers = a .numbers; rooms = a .rooms }

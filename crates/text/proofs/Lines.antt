@@ -26,7 +26,7 @@ use Rattle.rules.proofs.Cycles.{miss-above-hit, cycles-are, above-cycles-at}
 use Rattle.text.specs.Writing.{countLine, linesBelow, curveLine, curveLines}
 use Rattle.text.specs.Cycles.{coreLine, cycleLine, coreLines}
 use Rattle.text.specs.Put.{countLines, coreCounts}
-use Rattle.text.specs.Rooms.{Counted}
+use Rattle.text.specs.Working.{Counted}
 
 -- the same lines for each number below n
 lines-alike : (f g : ℕ → List ℕ) (n : ℕ) → ((k : ℕ) → k < n → f k ≡ g k) → linesBelow f n ≡ linesBelow g n

@@ -8,7 +8,7 @@ use native.Mathlib.Nat.{le-trans}
 use native.Mathlib.Omega.{arith}
 use borrow.Author.Tests.{leb-true}
 use lib.Dec.{leb}
-use lib.ListN.{length, take, length-map}
+use lib.ListN.{length, take, replicate, length-map}
 use Rattle.basics.proofs.Bools.{and-right}
 use Rattle.rules.specs.declared.State.{State}
 use Rattle.rules.specs.declared.Units.{Units}
@@ -39,10 +39,10 @@ use Rattle.reading.proofs.Calls.{malformed, well-formed, how-many, numbers-ther
 use Rattle.text.specs.Parts.{complete, inputFrom}
 use Rattle.text.specs.Places.{Ends}
 use Rattle.text.specs.Writing.{refusedLine, headLine, linesBelow, curveLines}
-use Rattle.text.specs.Printed.{told, ofInput, ofNumbers, ofText}
+use Rattle.text.specs.Printed.{told, accepts, ofInput, ofNumbers, ofText, numbersWorked, textWorked}
 use Rattle.text.specs.Curve.{curve, curveOfNumbers}
 use Rattle.text.specs.Cycles.{longestLine, coreLines, inCycles, cyclesOfNumbers}
-use Rattle.text.specs.Rooms.{Called}
+use Rattle.text.specs.Working.{Called, Finishes}
 use Rattle.text.proofs.Places.{between, input-is}
 
 -- ---- what the graph call answers, and what is told of the input
@@ -51,6 +51,10 @@ module _ (i : Input) where
   told-refused : (text : List ℕ) (why : Refusal) (v : Verdict) → answered v i ≡ RefusedOutcome why → refusedLine (numberOf why) ≡ told v text
   told-refused text why Accepted e = absurd (numbered why (sym (ap (λ (q : Outcome). outcomeSays q .number) e)))
   told-refused text why (Refused r) e = ap (λ (q : Outcome). refusedLine (outcomeSays q .number)) (sym e)
+
+  refused-unaccepted : (why : Refusal) (v : Verdict) → answered v i ≡ RefusedOutcome why → accepts v ≡ false
+  refused-unaccepted why Accepted e = absurd (numbered why (sym (ap (λ (q : Outcome). outcomeSays q .number) e)))
+  refused-unaccepted why (Refused r) e = refl
 
   finished-accepted : (n : ℕ) (a : Units) (v : Verdict) → answered v i ≡ Finished n a → v ≡ Accepted
   finished-accepted n a Accepted e = refl
@@ -70,25 +74,18 @@ module _ (ns : List ℕ) (a b c : ℕ) (ends : Ends ns a b c) (accepted : verdic
   pub longest-not-refused : (why : Refusal) → r ≡ RefusedLength why → ⊥
   longest-not-refused why e = numbered why (ap (λ (q : Length). lengthSays q .number) (sym e ∙ answers-longest))
 
--- ---- for a list of numbers
+-- ---- for a list of numbers: what is printed, and whether it is worked
 
-module _ (text : Input → List ℕ) (ns : List ℕ) where
-  pub printed-incomplete : complete ns ≡ false → refusedLine 9 ≡ ofNumbers text ns
+module _ (ns : List ℕ) (not : complete ns ≡ false) where
+  pub printed-incomplete : (text : Input → List ℕ) → refusedLine 9 ≡ ofNumbers text ns
   unfolding ofNumbers
-  printed-incomplete h = rw h
+  printed-incomplete text = rw not
 
--- the call left a finished table of so many states in the result room, with so many units set aside: the input is accepted, the longest path covers
--- every miss count of the table, and this is what is printed
-pub record Finishes (ns result : List ℕ) (states : ℕ) (aside : Units) : Type 0 where
-  pub accepted : verdict (inputFrom ns) ≡ Accepted
-  pub table : isTable (take states (tableOf result)) ≡ true
-  pub covered : largest (take states (tableOf result)) ≤ longest (inputFrom ns)
-  pub few : longest (inputFrom ns) ≤ 4096
-  pub curve-is : headLine states (aside .0) ++ curveLines (take states (tableOf result)) ≡ curveOfNumbers ns
-  pub cycles-are : (L : ℕ) → L ≡ longest (inputFrom ns)
-      → longestLine states (aside .0) L ++ linesBelow (coreLines L (take states (tableOf result))) (length cores) ≡ cyclesOfNumbers ns
+  pub incomplete-unworked : numbersWorked ns ≡ false
+  unfolding numbersWorked
+  incomplete-unworked = rw not
 
-module _ (ns : List ℕ) (ok : complete ns ≡ true) (r : Outcome) (result : List ℕ) (called : Called (inputFrom ns) r result) where
+module _ (ns : List ℕ) (ok : complete ns ≡ true) (r : Outcome) (rs ws result work : List ℕ) (called : Called (inputFrom ns) r rs ws result work) where
   abbrev i : Input
   i = inputFrom ns
 
@@ -100,6 +97,10 @@ module _ (ns : List ℕ) (ok : complete ns ≡ true) (r : Outcome) (result : Lis
   unfolding outcome
   printed-refused text why n e f =
       ap refusedLine e ∙ told-refused i (text i) why (verdict i) (sym (called .answer) ∙ f) ∙ printed-told text
+
+  pub refused-unworked : (why : Refusal) → r ≡ RefusedOutcome why → numbersWorked ns ≡ false
+  unfolding numbersWorked outcome
+  refused-unworked why f = rw ok (refused-unaccepted i why (verdict i) (sym (called .answer) ∙ f))
 
   module _ (states : ℕ) (aside : Units) (f : r ≡ Finished states aside) where
     is-accepted : verdict i ≡ Accepted
@@ -123,6 +124,13 @@ module _ (ns : List ℕ) (ok : complete ns ≡ true) (r : Outcome) (result : Lis
         ∙ sym (ap (λ (v : Verdict). told v (text i)) is-accepted)
         ∙ printed-told text
 
+    pub finished-worked : numbersWorked ns ≡ true
+    unfolding numbersWorked
+    finished-worked = rw ok (ap accepts is-accepted)
+
+    pub finished-cleared : work ≡ replicate (length ws) 0
+    finished-cleared = called .worked (ap (λ (q : Outcome). outcomeSays q .number) f)
+
     pub left-finished : Finishes ns result states aside
     unfolding curve inCycles
     left-finished =
@@ -144,6 +152,10 @@ module _ (text room : List ℕ) (long : 16384 ≤ length room) (r : Read) (room�
   unfolding ofText
   text-malformed of e = rw (malformed text room long r room′ left e)
 
+  pub malformed-unworked : r ≡ Nothing → textWorked text ≡ false
+  unfolding textWorked
+  malformed-unworked e = rw (malformed text room long r room′ left e)
+
   module _ (n : ℕ) (e : r ≡ Numbers n) where
     -- as many as there are words, 16,384 at most
     pub numbers-few : n ≤ 16384
@@ -163,3 +175,7 @@ module _ (text room : List ℕ) (long : 16384 ≤ length room) (r : Read) (room�
     pub text-read : (of : Input → List ℕ) → ofNumbers of (take n room′) ≡ ofText of text
     unfolding ofText
     text-read of = rw (well-formed text room long r room′ left n e) (ap (ofNumbers of) (numbers-there text room long r room′ left n e))
+
+    pub read-worked : numbersWorked (take n room′) ≡ textWorked text
+    unfolding textWorked
+    read-worked = rw (well-formed text room long r room′ left n e) (ap numbersWorked (numbers-there text room long r room′ left n e))

@@ -1,6 +1,7 @@
--- What a call leaves in its rooms: nothing is written where one is too short, and otherwise the text is put at the front and the others are cleared.
-use mathlib.Core.Path.{_≡_, ap, ap₂, _∙_}
-use mathlib.Core.Bool.{true, false, _&&_}
+-- What a call leaves in its rooms: nothing is written where one is too short, and otherwise the text is put at the front; the others are zero where the numbers
+-- were worked, and as they were where they were refused.
+use mathlib.Core.Path.{_≡_, ap, ap₂, subst, _∙_}
+use mathlib.Core.Bool.{Bool, true, false, _&&_}
 use mathlib.Core.List.{List, _++_}
 use Prim.Native.Nat.{ℕ, _≤_, _<_}
 use native.Mathlib.Nat.{le-refl, zero-add}
@@ -15,7 +16,8 @@ use Rattle.text.specs.Put.{Put}
 use Rattle.text.specs.declared.working.Wanted.{Wanted}
 use Rattle.text.specs.declared.working.Wanted.the-variants.{Misses, Cycles}
 use Rattle.text.specs.Wanted.{wantedBytes}
-use Rattle.text.specs.Rooms.{Rooms, longEnough, enough, After, leaves, leavesText}
+use Rattle.text.specs.Rooms.{Rooms, longEnough, enough, NumbersWritten, written, textWritten}
+use Rattle.text.specs.Working.{Wrote}
 
 pub rooms-long : (bytes a b c d : ℕ) → longEnough bytes a b c d ≡ true → (192 ≤ a) × (15552 ≤ b) × (4097 ≤ c) × (bytes ≤ d)
 rooms-long bytes a b c d h =
@@ -37,30 +39,44 @@ front-put : (bs : List ℕ) (e : ℕ) (o o₁ : List ℕ) → Put bs 0 e o o₁ 
 front-put bs e o o₁ done =
     done .room ∙ ap₂ (λ (s t : List ℕ). s ++ t) (take-all (length bs) bs (le-refl (length bs))) (ap (λ (k : ℕ). drop k o) (zero-add (length bs)))
 
-module _ (bytes : ℕ) (bs : List ℕ) (r : Rooms) where
-  pub leaves-none : enough bytes r ≡ false → record { answer = NoRoom; rooms = r } ≡ leaves (enough bytes r) bs r
-  leaves-none h = rw h
+-- what was refused left the rooms as they were
+pub wrote-refused : (worked : Bool) (bs : List ℕ) (e : ℕ) (a b : Rooms) → worked ≡ false → Put bs 0 e (a .output) (b .output)
+    → b .result ≡ a .result → b .work ≡ a .work → b .counts ≡ a .counts → Wrote worked bs e a b
+wrote-refused worked bs e a b h done p q s = record { put = done; result = rw h p; work = rw h q; counts = rw h s }
 
-  pub leaves-written : enough bytes r ≡ true → (e : ℕ) (rs ws cs o : List ℕ) → rs ≡ replicate (length (r .result)) 0 → ws ≡ replicate (length (r .work)) 0
-      → cs ≡ replicate (length (r .counts)) 0 → Put bs 0 e (r .output) o
-      → record { answer = Bytes e; rooms = record { result = rs; work = ws; counts = cs; output = o } } ≡ leaves (enough bytes r) bs r
-  leaves-written h e rs ws cs o p q s done =
-      let long : e ≡ length bs = done .ends ∙ zero-add (length bs) in
-      let front = front-put bs e (r .output) o done in
-      rw h (λ i. record { answer = Bytes (long i); rooms = record { result = p i; work = q i; counts = s i; output = front i } })
+-- what was worked left them zero
+pub wrote-worked : (worked : Bool) (bs : List ℕ) (e : ℕ) (a b : Rooms) → worked ≡ true → Put bs 0 e (a .output) (b .output)
+    → b .result ≡ replicate (length (a .result)) 0 → b .work ≡ replicate (length (a .work)) 0 → b .counts ≡ replicate (length (a .counts)) 0
+    → Wrote worked bs e a b
+wrote-worked worked bs e a b h done p q s = record { put = done; result = rw h p; work = rw h q; counts = rw h s }
+
+-- the same, said of a text that is worked where the other is, and gives the same bytes
+pub wrote-same : (worked worked′ : Bool) (bs bs′ : List ℕ) (e : ℕ) (a b : Rooms) → Wrote worked bs e a b → worked ≡ worked′ → bs ≡ bs′ → Wrote worked′ bs′ e a b
+wrote-same worked worked′ bs bs′ e a b done p q = subst (λ (w : Bool). Wrote w bs′ e a b) p (subst (λ (t : List ℕ). Wrote worked t e a b) q done)
+
+module _ (bytes : ℕ) (worked : Bool) (bs : List ℕ) (r : Rooms) where
+  pub written-none : enough bytes r ≡ false → record { answer = NoRoom; rooms = r } ≡ written (enough bytes r) worked bs r
+  written-none h = rw h
+
+  pub written-all : enough bytes r ≡ true → (e : ℕ) (rs ws cs o : List ℕ) → Wrote worked bs e r (record { result = rs; work = ws; counts = cs; output = o })
+      → record { answer = Bytes e; rooms = record { result = rs; work = ws; counts = cs; output = o } } ≡ written (enough bytes r) worked bs r
+  written-all h e rs ws cs o done =
+      let long : e ≡ length bs = done .put .ends ∙ zero-add (length bs) in
+      let front = front-put bs e (r .output) o (done .put) in
+      rw h (λ i. record { answer = Bytes (long i); rooms = record { result = done .result i; work = done .work i; counts = done .counts i; output = front i } })
+
+module _ (bytes : ℕ) (worked : Bool) (bs numbers : List ℕ) (r : Rooms) where
+  pub few-numbers : length numbers < 16384 → record { answer = NoRoom; numbers = numbers; rooms = r } ≡ textWritten (enough bytes r) worked bs numbers r
+  few-numbers l = rw (lt-leb 16384 (length numbers) l)
+
+  module _ (l : 16384 ≤ length numbers) where
+    pub text-none : enough bytes r ≡ false → record { answer = NoRoom; numbers = numbers; rooms = r } ≡ textWritten (enough bytes r) worked bs numbers r
+    text-none h = rw (le-leb 16384 (length numbers) l, h)
+
+    pub text-all : enough bytes r ≡ true → (a : NumbersWritten) (ns : List ℕ) → ns ≡ replicate (length numbers) 0 → a ≡ written (enough bytes r) worked bs r
+        → record { answer = a .answer; numbers = ns; rooms = a .rooms } ≡ textWritten (enough bytes r) worked bs numbers r
+    text-all h a ns p q = rw (le-leb 16384 (length numbers) l, p, q, h)
 
 -- cleared, after a call that keeps its length
 pub cleared : (ns ms : List ℕ) (n : ℕ) → ns ≡ replicate (length ms) 0 → length ms ≡ n → ns ≡ replicate n 0
 cleared ns ms n p e = p ∙ ap (λ (k : ℕ). replicate k 0) e
-
-module _ (bytes : ℕ) (bs numbers : List ℕ) (r : Rooms) where
-  pub few-numbers : length numbers < 16384 → record { answer = NoRoom; numbers = numbers; rooms = r } ≡ leavesText (enough bytes r) bs numbers r
-  few-numbers l = rw (lt-leb 16384 (length numbers) l)
-
-  module _ (l : 16384 ≤ length numbers) where
-    pub text-none : enough bytes r ≡ false → record { answer = NoRoom; numbers = numbers; rooms = r } ≡ leavesText (enough bytes r) bs numbers r
-    text-none h = rw (le-leb 16384 (length numbers) l, h)
-
-    pub text-written : enough bytes r ≡ true → (a : After) (ns : List ℕ) → ns ≡ replicate (length numbers) 0 → a ≡ leaves (enough bytes r) bs r
-        → record { answer = a .answer; numbers = ns; rooms = a .rooms } ≡ leavesText (enough bytes r) bs numbers r
-    text-written h a ns p q = rw (le-leb 16384 (length numbers) l, p, q, h)

@@ -16,5 +16,7 @@ pub mod Curve
 pub mod Cycles
 -- what a call leaves
 pub mod Rooms
+-- what the inner functions do for each other
+pub mod Working
 -- which text is wanted
 pub mod Wanted

@@ -1,6 +1,6 @@
 -- What is printed: document 01, section 7. What is malformed is refused with 9, then the refusals of the graph call are given, then comes the text of
 -- an accepted input: `text` is the curve, or the curves in cycles.
-use mathlib.Core.Bool.{cond}
+use mathlib.Core.Bool.{Bool, true, false, cond, _&&_}
 use mathlib.Core.List.{List}
 use Prim.Native.Nat.{ℕ}
 use Rattle.rules.specs.declared.Refusal.the-variants.{Text}
@@ -29,3 +29,18 @@ ofNumbers text ns = cond (complete ns) (ofInput text (inputFrom ns)) (refusedLin
 -- for a text
 unfoldable pub ofText : (Input → List ℕ) → List ℕ → List ℕ
 ofText text bytes = cond (wellFormed bytes) (ofNumbers text (numbersIn bytes)) (refusedLine (numberOf Text))
+
+-- ---- what is worked: everything else is refused
+
+-- whether a verdict accepts
+abbrev pub accepts : Verdict → Bool
+accepts Accepted = true
+accepts (Refused r) = false
+
+-- whether a list of numbers is worked: none is missing or left over, and the graph call accepts what they mean
+unfoldable pub numbersWorked : List ℕ → Bool
+numbersWorked ns = complete ns && accepts (verdict (inputFrom ns))
+
+-- whether a text is worked
+unfoldable pub textWorked : List ℕ → Bool
+textWorked bytes = wellFormed bytes && numbersWorked (numbersIn bytes)

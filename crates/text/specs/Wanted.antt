@@ -4,10 +4,10 @@ use Prim.Native.Nat.{ℕ}
 use Rattle.rules.specs.Input.{Input}
 use Rattle.text.specs.declared.working.Wanted.{Wanted}
 use Rattle.text.specs.declared.working.Wanted.the-variants.{Misses, Cycles}
-use Rattle.text.specs.Printed.{ofNumbers, ofText}
+use Rattle.text.specs.Printed.{ofNumbers, ofText, numbersWorked, textWorked}
 use Rattle.text.specs.Curve.{curve}
 use Rattle.text.specs.Cycles.{inCycles}
-use Rattle.text.specs.Rooms.{Rooms, enough, curveBytes, cyclesBytes, After, leaves, AfterText, leavesText}
+use Rattle.text.specs.Rooms.{Rooms, enough, curveBytes, cyclesBytes, NumbersWritten, written, TextWritten, textWritten}
 
 -- what an accepted input prints
 abbrev pub wantedText : Wanted → Input → List ℕ
@@ -20,9 +20,9 @@ wantedBytes Misses = curveBytes
 wantedBytes Cycles = cyclesBytes
 
 -- what a call for numbers leaves
-abbrev pub wantedAfter : Wanted → List ℕ → Rooms → After
-wantedAfter w ns r = leaves (enough (wantedBytes w) r) (ofNumbers (wantedText w) ns) r
+abbrev pub wantedAfter : Wanted → List ℕ → Rooms → NumbersWritten
+wantedAfter w ns r = written (enough (wantedBytes w) r) (numbersWorked ns) (ofNumbers (wantedText w) ns) r
 
 -- what a call for a text leaves
-abbrev pub wantedAfterText : Wanted → List ℕ → List ℕ → Rooms → AfterText
-wantedAfterText w text numbers r = leavesText (enough (wantedBytes w) r) (ofText (wantedText w) text) numbers r
+abbrev pub wantedAfterText : Wanted → List ℕ → List ℕ → Rooms → TextWritten
+wantedAfterText w text numbers r = textWritten (enough (wantedBytes w) r) (textWorked text) (ofText (wantedText w) text) numbers r

@@ -4,7 +4,6 @@ use crate::working::has_room;
 use crate::working::put_numbers;
 use crate::working::put_text;
 use reading::clear_numbers;
-use words::clear;
 ghost use mathlib.Core.Path.{_≡_};
 ghost use Rattle.text.specs.Rooms.{afterNumbers, afterText, afterCyclesOfNumbers, afterCyclesOfText};
 ghost use Rattle.text.specs.Wanted.{wantedAfter, wantedAfterText};
@@ -20,8 +19,8 @@ pub enum Written {
     NoRoom,
 }
 
-// The curve's text for numbers in the curve's order, at the front of `output`. Long enough are a result room of 192 words, a working room of
-// 15,552, counts of 4,097, and an output of 262,144 bytes.
+// The curve's text for numbers in the curve's order, at the front of `output`. What was worked in is zero then; a refusal, which is a text too, leaves it as it was.
+// Long enough are a result room of 192 words, a working room of 15,552, counts of 4,097, and an output of 262,144 bytes.
 pub fn curve_of_numbers(
     numbers: &[u32],
     result: &mut [u64],
@@ -47,7 +46,7 @@ pub fn cycles_of_numbers(
     write_numbers(Wanted::Cycles, numbers, result, work, counts, output)
 }
 
-// The curve's text for a text. Long enough are rooms as for `curve_of_numbers`, and 16,384 numbers.
+// The curve's text for a text. The room for its numbers is zero then, after a refusal too. Long enough are rooms as for `curve_of_numbers`, and 16,384 numbers.
 pub fn curve_of_text(
     text: &[u8],
     numbers: &mut [u32],
@@ -89,11 +88,7 @@ fn write_numbers(
     if !has_room(wanted, result.len(), work.len(), counts.len(), output.len()) {
         return Written::NoRoom;
     }
-    let end = put_numbers(wanted, numbers, result, work, counts, output);
-    clear(result);
-    clear(work);
-    clear(counts);
-    Written::Bytes(end)
+    Written::Bytes(put_numbers(wanted, numbers, result, work, counts, output))
 }
 
 // The text that is wanted, for a text.
@@ -116,8 +111,5 @@ fn write_text(
     }
     let end = put_text(wanted, text, numbers, result, work, counts, output);
     clear_numbers(numbers);
-    clear(result);
-    clear(work);
-    clear(counts);
     Written::Bytes(end)
 }

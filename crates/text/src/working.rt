@@ -14,11 +14,12 @@ use rules::Count;
 use rules::Length;
 use rules::Outcome;
 use rules::Units;
+use words::clear;
 ghost use mathlib.Core.Path.{_≡_};
 ghost use mathlib.Core.Bool.{true};
 ghost use mathlib.Core.List.{_++_};
 ghost use Prim.Native.Nat.{_≤_, _<_};
-ghost use lib.ListN.{length, take};
+ghost use lib.ListN.{length, take, replicate};
 ghost use Rattle.rules.specs.declared.Verdict.the-variants.{Accepted};
 ghost use Rattle.rules.specs.Questions.{isTable, largest};
 ghost use Rattle.rules.specs.Refusals.{verdict};
@@ -28,10 +29,11 @@ ghost use Rattle.words.specs.Tables.{tableOf};
 ghost use Rattle.text.specs.Parts.{inputFrom};
 ghost use Rattle.text.specs.Places.{Ends};
 ghost use Rattle.text.specs.Writing.{headLine, curveLines, linesBelow};
-ghost use Rattle.text.specs.Printed.{ofNumbers, ofText};
+ghost use Rattle.text.specs.Printed.{ofNumbers, ofText, numbersWorked, textWorked};
 ghost use Rattle.text.specs.Cycles.{longestLine, coreLines};
 ghost use Rattle.text.specs.Put.{Put};
-ghost use Rattle.text.specs.Rooms.{Called, Counted, longEnough};
+ghost use Rattle.text.specs.Rooms.{longEnough};
+ghost use Rattle.text.specs.Working.{Called, Counted, Finishes, Wrote};
 ghost use Rattle.text.specs.Wanted.{wantedText, wantedBytes};
 
 // Which text is wanted: the curve, or the curves in cycles.
@@ -50,7 +52,7 @@ pub(crate) fn call(
     work: &mut [u64],
 ) -> Outcome
     requires { ⌜ Ends (now numbers) first second third × (3 ≤ first) × (first < second) × (second < third) × (third < length (now numbers)) × (192 ≤ length (now result)) × (15552 ≤ length (now work)) ⌝ }
-    ensures { λ r. ⌜ Called (inputFrom (now (numbers .entry))) r (now (result .exit)) ⌝ }
+    ensures { λ r. ⌜ Called (inputFrom (now (numbers .entry))) r (now (result .entry)) (now (work .entry)) (now (result .exit)) (now (work .exit)) ⌝ }
 {
     analyse(
         numbers[0],
@@ -126,7 +128,65 @@ pub(crate) fn put_cycles(
     put_cores(output, head, &counts[..n], longest)
 }
 
-// The text that is wanted of the numbers, or the line of a refusal.
+// The text that is wanted, for the same numbers, where the call has left a table of `states` states in the result room.
+pub(crate) fn put_wanted(
+    wanted: Wanted,
+    numbers: &[u32],
+    first: usize,
+    second: usize,
+    third: usize,
+    states: usize,
+    aside: Units,
+    result: &[u64],
+    counts: &mut [u64],
+    output: &mut [u8],
+) -> usize
+    requires { ⌜ Ends (now numbers) first second third × (3 ≤ first) × (first < second) × (second < third) × (third < length (now numbers)) × Finishes (now numbers) (now result) states aside × (4097 ≤ length (now counts)) × (wantedBytes wanted ≤ length (now output)) ⌝ }
+    ensures { λ r. ⌜ Put (ofNumbers (wantedText wanted) (now (numbers .entry))) 0 r (now (output .entry)) (now (output .exit)) ⌝ }
+{
+    match wanted {
+        Wanted::Misses => put_curve(result, states, aside, counts, output),
+        Wanted::Cycles => {
+            let longest = longest_of(numbers, first, second, third);
+            put_cycles(result, states, aside, longest, counts, output)
+        }
+    }
+}
+
+// The same, and then the result room and the counts are cleared.
+pub(crate) fn put_finished(
+    wanted: Wanted,
+    numbers: &[u32],
+    first: usize,
+    second: usize,
+    third: usize,
+    states: usize,
+    aside: Units,
+    result: &mut [u64],
+    counts: &mut [u64],
+    output: &mut [u8],
+) -> usize
+    requires { ⌜ Ends (now numbers) first second third × (3 ≤ first) × (first < second) × (second < third) × (third < length (now numbers)) × Finishes (now numbers) (now result) states aside × (4097 ≤ length (now counts)) × (wantedBytes wanted ≤ length (now output)) ⌝ }
+    ensures { λ r. ⌜ Put (ofNumbers (wantedText wanted) (now (numbers .entry))) 0 r (now (output .entry)) (now (output .exit)) × (now (result .exit) ≡ replicate (length (now (result .entry))) 0) × (now (counts .exit) ≡ replicate (length (now (counts .entry))) 0) ⌝ }
+{
+    let end = put_wanted(
+        wanted,
+        numbers,
+        first,
+        second,
+        third,
+        states,
+        aside,
+        result,
+        counts,
+        output,
+    );
+    clear(result);
+    clear(counts);
+    end
+}
+
+// The text that is wanted of the numbers, or the line of a refusal, which leaves the rooms that are worked in as they were.
 pub(crate) fn put_numbers(
     wanted: Wanted,
     numbers: &[u32],
@@ -136,7 +196,7 @@ pub(crate) fn put_numbers(
     output: &mut [u8],
 ) -> usize
     requires { ⌜ (192 ≤ length (now result)) × (15552 ≤ length (now work)) × (4097 ≤ length (now counts)) × (wantedBytes wanted ≤ length (now output)) ⌝ }
-    ensures { λ r. ⌜ Put (ofNumbers (wantedText wanted) (now (numbers .entry))) 0 r (now (output .entry)) (now (output .exit)) ⌝ }
+    ensures { λ r. ⌜ Wrote (numbersWorked (now (numbers .entry))) (ofNumbers (wantedText wanted) (now (numbers .entry))) r (record { result = now (result .entry); work = now (work .entry); counts = now (counts .entry); output = now (output .entry) }) (record { result = now (result .exit); work = now (work .exit); counts = now (counts .exit); output = now (output .exit) }) ⌝ }
 {
     let first = end_of(numbers, 2, 1);
     let second = end_of(numbers, first, 1);
@@ -146,13 +206,18 @@ pub(crate) fn put_numbers(
     }
     match call(numbers, first, second, third, result, work) {
         Outcome::Refused(why) => put_refused(output, why.number()),
-        Outcome::Finished(states, aside) => match wanted {
-            Wanted::Misses => put_curve(result, states, aside, counts, output),
-            Wanted::Cycles => {
-                let longest = longest_of(numbers, first, second, third);
-                put_cycles(result, states, aside, longest, counts, output)
-            }
-        },
+        Outcome::Finished(states, aside) => put_finished(
+            wanted,
+            numbers,
+            first,
+            second,
+            third,
+            states,
+            aside,
+            result,
+            counts,
+            output,
+        ),
     }
 }
 
@@ -167,7 +232,7 @@ pub(crate) fn put_text(
     output: &mut [u8],
 ) -> usize
     requires { ⌜ (16384 ≤ length (now numbers)) × (192 ≤ length (now result)) × (15552 ≤ length (now work)) × (4097 ≤ length (now counts)) × (wantedBytes wanted ≤ length (now output)) ⌝ }
-    ensures { λ r. ⌜ Put (ofText (wantedText wanted) (now (text .entry))) 0 r (now (output .entry)) (now (output .exit)) ⌝ }
+    ensures { λ r. ⌜ Wrote (textWorked (now (text .entry))) (ofText (wantedText wanted) (now (text .entry))) r (record { result = now (result .entry); work = now (work .entry); counts = now (counts .entry); output = now (output .entry) }) (record { result = now (result .exit); work = now (work .exit); counts = now (counts .exit); output = now (output .exit) }) ⌝ }
 {
     match read_numbers(text, numbers) {
         Read::Nothing => put_refused(output, 9),

@@ -1,14 +1,13 @@
--- `write_text` meets its contract: where a room is too short nothing is written; otherwise the text is at the front of the output, and the
--- other rooms are cleared.
+-- `write_text` meets its contract: where a room is too short nothing is written; otherwise what `put_text` writes, and the room for numbers is cleared.
 use mathlib.Core.Path.{_≡_, sym, _∙_}
 use mathlib.Core.Bool.{true}
 use borrow.Author.Needs.{needs}
 use borrow.Author.Tests.{not-true, not-false}
 use denote.Ref.{now}
-use Rattle.text.specs.Printed.{ofText}
+use Rattle.text.specs.Printed.{ofText, textWorked}
 use Rattle.text.specs.Rooms.{Rooms, enough}
 use Rattle.text.specs.Wanted.{wantedText, wantedBytes}
-use Rattle.text.proofs.Rooms.{rooms-long, leaves-written, cleared, few-numbers, text-none, text-written}
+use Rattle.text.proofs.Rooms.{rooms-long, written-all, cleared, few-numbers, text-none, text-all}
 use Rattle.text.proofs.write_text.Statement.{statement}
 use Rattle.text.proofs.write_text.Tie as tie
 
@@ -21,10 +20,10 @@ long : (c : tie.Else2) → enough (wantedBytes (c .before .before .before .befor
 long c = sym (c .before .has-room .ensures) ∙ not-false _ (c .if2 .left)
 
 returns : tie.Need-returns
-returns c = few-numbers _ _ _ _ (c .if1 .taken)
+returns c = few-numbers _ _ _ _ _ (c .if1 .taken)
 
 returns-2 : tie.Need-returns-2
-returns-2 c = text-none _ _ _ _ (c .before .before .if1 .left) (sym (c .before .has-room .ensures) ∙ not-true _ (c .if2 .taken))
+returns-2 c = text-none _ _ _ _ _ (c .before .before .if1 .left) (sym (c .before .has-room .ensures) ∙ not-true _ (c .if2 .taken))
 
 put-text-requires : tie.Need-put-text-requires
 put-text-requires c κs =
@@ -33,17 +32,15 @@ put-text-requires c κs =
 
 returns-3 : tie.Need-returns-3
 returns-3 c =
-    let start = c .before .before .before .before .before .before .before .before .before .before .before .before .before .before .before .before .before .before .before .before .before .before .before .before .before .before .before .before .before .before .before .before .before .before .before .before .before .before .before .before .before in
-    let a = start .args in
-    let p = c .before .before .before .before .before .before .before .before .before .before .before .before .before .before .before .before .before .before .before .before .before .before .before .before .before .before .put-text in
+    let a = c .before .before .before .before .before .before .before .before .before .before .before .before .before .before .before .before .before .before .before .before .before .before .before .before .before .before .before .before .before .args in
+    let put = c .before .before .before .before .before .before .before .before .before .before .before .before .before .before .put-text in
+    let bytes = wantedBytes (a .wanted) in
+    let worked = textWorked (now (a .text)) in
     let text = ofText (wantedText (a .wanted)) (now (a .text)) in
-    text-written (wantedBytes (a .wanted)) text (now (a .numbers)) (rooms start) (c .before .before .before .before .before .before .before .before .before .before .before .before .before .before .before .before .before .before .before .before .before .before .before .before .before .before .before .before .before .before .before .before .before .before .if1 .left) (long (c .before .before .before .before .before .before .before .before .before .before .before .before .before .before .before .before .before .before .before .before .before .before .before .before .before .before .before .before .before .before .before .before)) _ _
-    (cleared _ (p .last .1 .1 .0) _ (c .before .before .before .before .before .before .before .before .before .before .before .before .before .before .clear-numbers .ensures) (p .kept .1 .1 .0))
-    (leaves-written (wantedBytes (a .wanted)) text (rooms start) (long (c .before .before .before .before .before .before .before .before .before .before .before .before .before .before .before .before .before .before .before .before .before .before .before .before .before .before .before .before .before .before .before .before)) _ _ _ _ _
-    (cleared _ (p .last .1 .1 .1 .0) _ (c .before .before .before .before .before .before .before .before .before .before .clear .ensures) (p .kept .1 .1 .1 .0))
-    (cleared _ (p .last .1 .1 .1 .1 .0) _ (c .before .before .before .before .before .before .clear2 .ensures) (p .kept .1 .1 .1 .1 .0))
-    (cleared _ (p .last .1 .1 .1 .1 .1 .0) _ (c .before .before .clear3 .ensures) (p .kept .1 .1 .1 .1 .1 .0))
-    (p .ensures))
+    let enough = long (c .before .before .before .before .before .before .before .before .before .before .before .before .before .before .before .before .before .before .before .before) in
+    text-all bytes worked text (now (a .numbers)) (rooms (c .before .before .before .before .before .before .before .before .before .before .before .before .before .before .before .before .before .before .before .before .before .before .before .before .before .before .before .before .before)) (c .before .before .before .before .before .before .before .before .before .before .before .before .before .before .before .before .before .before .before .before .before .before .if1 .left) enough _ _
+    (cleared _ (put .last .1 .1 .0) _ (c .before .before .clear-numbers .ensures) (put .kept .1 .1 .0))
+    (written-all bytes worked text (rooms (c .before .before .before .before .before .before .before .before .before .before .before .before .before .before .before .before .before .before .before .before .before .before .before .before .before .before .before .before .before)) enough _ _ _ _ _ (put .ensures))
 
 pub write-text-spec : {M : Type 1} → statement M
 write-text-spec =
@@ -53,9 +50,6 @@ write-text-spec =
     (λ c κs. search needs)
     returns-2
     put-text-requires
-    (λ c κs. search needs)
-    (λ c κs. search needs)
-    (λ c κs. search needs)
     (λ c κs. search needs)
     (λ c. search needs)
     (λ c. search needs)

@@ -6,7 +6,7 @@ use denote.Ref.{now}
 use Rattle.rules.specs.Input.{Input}
 use Rattle.rules.specs.Graph.{finished}
 use Rattle.rules.specs.Refusals.{outcome}
-use Rattle.estimate.proofs.Finished.{call-answers, call-finishes}
+use Rattle.estimate.proofs.Finished.{call-answers, call-finishes, call-clears, call-refuses}
 use Rattle.text.proofs.Places.{input-is}
 use Rattle.text.proofs.working.call.Statement.{statement}
 use Rattle.text.proofs.working.call.Tie as tie
@@ -20,6 +20,8 @@ returns c =
     record {
       answer = call-answers _ _ _ _ _ _ _ _ (omega arith) (omega arith) _ _ _ left ∙ ap outcome (sym same);
       table = λ h. call-finishes _ _ _ _ _ _ _ _ (omega arith) (omega arith) _ _ _ left h ∙ ap (λ (i : Input). finished i .table) (sym same);
+      worked = call-clears _ _ _ _ _ _ _ _ (omega arith) (omega arith) _ _ _ left;
+      refused = call-refuses _ _ _ _ _ _ _ _ (omega arith) (omega arith) _ _ _ left;
     }
 
 pub call-spec : {M : Type 1} → statement M
