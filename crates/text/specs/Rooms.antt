@@ -43,11 +43,11 @@ longEnough bytes result work counts output = leb 192 result && leb 15552 work &&
 abbrev pub enough : ℕ → Rooms → Bool
 enough bytes r = longEnough bytes (length (r .result)) (length (r .work)) (length (r .counts)) (length (r .output))
 
--- the curve: a line of at most 55 bytes, and 4,097 of at most 63; the curves in cycles: one of at most 84, and for each core one of at most
--- 77 and 4,097 of at most 63
+-- the bytes that are enough for the curve: a line of at most 55, and 4,097 of at most 63
 abbrev pub curveBytes : ℕ
 curveBytes = 262144
 
+-- the bytes that are enough for the curves in cycles: a line of at most 84 bytes, and for each core one of at most 77 and 4,097 of at most 63
 abbrev pub cyclesBytes : ℕ
 cyclesBytes = 3145728
 
@@ -72,10 +72,11 @@ leaves true text r =
     }
 leaves false text r = record { answer = NoRoom; rooms = r }
 
--- after the curve, and after the curves in cycles
+-- after the curve of numbers
 unfoldable pub afterNumbers : List ℕ → Rooms → After
 afterNumbers ns r = leaves (enough curveBytes r) (curveOfNumbers ns) r
 
+-- after the curves in cycles of numbers
 unfoldable pub afterCyclesOfNumbers : List ℕ → Rooms → After
 afterCyclesOfNumbers ns r = leaves (enough cyclesBytes r) (cyclesOfNumbers ns) r
 
@@ -94,9 +95,10 @@ leavesText ok text numbers r =
     let a = leaves all text r in
     record { answer = a .answer; numbers = cond all (replicate (length numbers) 0) numbers; rooms = a .rooms }
 
--- after the curve, and after the curves in cycles
+-- after the curve of a text
 unfoldable pub afterText : List ℕ → List ℕ → Rooms → AfterText
 afterText text numbers r = leavesText (enough curveBytes r) (curveOfText text) numbers r
 
+-- after the curves in cycles of a text
 unfoldable pub afterCyclesOfText : List ℕ → List ℕ → Rooms → AfterText
 afterCyclesOfText text numbers r = leavesText (enough cyclesBytes r) (cyclesOfText text) numbers r
