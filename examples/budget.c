@@ -8,8 +8,9 @@
 /* The blocks of the code: the loop's three, and one for each arm of the branch. */
 enum { LOAD = 0x4000, BLEND = 0x4040, STORE = 0x4080, WEAVE = 0x4100, SMOOTH = 0x4140 };
 
-/* WEAVE is left untracked: it is accessed once, and tracking it would only use up states. */
-static const uint32_t tracked[] = { LOAD, BLEND, STORE, SMOOTH };
+/* All five are tracked. The bound is safe for any choice of them, and which choice gives the smallest budget has to be tried: with WEAVE left out, which is
+ * accessed once, it is 21 and not 20. */
+static const uint32_t tracked[] = { LOAD, BLEND, STORE, WEAVE, SMOOTH };
 
 /* Node 0 looks at the field, node 1 weaves (still), node 2 smooths (moving), node 3 writes it out: four runs of the one access list. */
 static const uint32_t runs[] = { 3, 2, 4, 36 };
@@ -37,14 +38,14 @@ int main(void)
     uint64_t aside, budget, above, longest, cycles_0, cycles_7;
     const uint64_t allowance = ESTIMATE_WHOLE / 1000000000;
 
-    uint64_t refused = estimate_graph(8, 64, tracked, 4, runs, 4, accesses, count, edges, 8,
+    uint64_t refused = estimate_graph(8, 64, tracked, 5, runs, 4, accesses, count, edges, 8,
                                       result, ESTIMATE_RESULT_WORDS, work, ESTIMATE_WORK_WORDS, &states, &aside);
     if (!refused)
         refused = estimate_smallest_budget(result, ESTIMATE_RESULT_WORDS, states, allowance, &budget);
     if (!refused)
         refused = estimate_above(result, ESTIMATE_RESULT_WORDS, states, budget, &above);
     if (!refused)
-        refused = estimate_longest_path(8, 64, tracked, 4, runs, 4, accesses, count, edges, 8, &longest);
+        refused = estimate_longest_path(8, 64, tracked, 5, runs, 4, accesses, count, edges, 8, &longest);
     if (!refused)
         refused = estimate_smallest_cycles(result, ESTIMATE_RESULT_WORDS, states, 0, longest, allowance, &cycles_0);
     if (!refused)

@@ -4,12 +4,27 @@
  * all other rooms as they were but the room for a text's numbers, which is zero afterwards.
  * A stretch of memory is passed as a pointer and how many elements it has; an empty one may be NULL and 0. A pointer to one value (states, aside, units, budget,
  * largest, longest, cycles) is never NULL, and what is lent for writing overlaps nothing else that is passed: these two things the caller has to see to.
- * Linked from libestimate_c.a, which uses no heap and no memory but what it is lent and the stack, and of the C library only memcpy and memset. */
+ *
+ * A call keeps no state: nothing is left of it but what it wrote to the memory that it was lent. So calls may run at the same time, in threads or one interrupting
+ * another, as long as what each is lent for writing is lent to it alone. They use no heap, and no memory but what they are lent and the stack, of which 4,096 bytes are
+ * enough: no function calls itself, and a painted stack showed 736 bytes for the graph call and 1,384 for the deepest, the text of the curves in cycles, on each of the
+ * large inputs that were tried.
+ *
+ * Linked from libestimate_c.a, for x86-64, which takes of the C library only memcpy and memset. `rt staticlib estimate_c` makes it:
+ *
+ *     cc -Iinclude program.c target/staticlib/libestimate_c.a -o program */
 #ifndef ESTIMATE_H
 #define ESTIMATE_H
 
 #include <stddef.h>
 #include <stdint.h>
+
+/* The version of what is declared here: it rises where a function, a constant or what a call gives changes. */
+#define ESTIMATE_VERSION 1
+
+#ifdef __cplusplus
+extern "C" {
+#endif
 
 /* Certainty: a unit is a chance of 2^-48. */
 #define ESTIMATE_WHOLE ((uint64_t)281474976710656)
@@ -126,5 +141,9 @@ size_t estimate_cycles_of_numbers(const uint32_t *numbers, size_t count,
                                   uint64_t *work, size_t work_words,
                                   uint64_t *counts, size_t counts_room,
                                   uint8_t *output, size_t output_bytes);
+
+#ifdef __cplusplus
+}
+#endif
 
 #endif

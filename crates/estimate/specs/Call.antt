@@ -11,6 +11,7 @@ use Rattle.rules.specs.Graph.{finished}
 use Rattle.rules.specs.Refusals.{verdict, outcome}
 use Rattle.words.specs.Tables.{wordsOf}
 
+-- what a graph call leaves: its answer, and the words of both rooms then
 pub record After : Type 0 where
   pub answer : Outcome
   pub result : List ℕ

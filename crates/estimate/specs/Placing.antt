@@ -8,11 +8,13 @@ use Rattle.rules.specs.declared.State.{State}
 use Rattle.rules.specs.Ordered.{Order, before, same, after, insert}
 use Rattle.rules.specs.Table.{order, plus, add}
 
+-- the first of the two stands after the second
 abbrev pub isAfter : Order → Bool
 isAfter before = false
 isAfter same = false
 isAfter after = true
 
+-- the two stand at the same place
 abbrev pub isSame : Order → Bool
 isSame before = false
 isSame same = true

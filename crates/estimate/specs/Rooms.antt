@@ -37,10 +37,11 @@ unfoldable pub filled : List State → ℕ
 filled [] = 0
 filled (s ∷ T) = cond (eqb (unitsOf s) 0) 0 (suc (filled T))
 
--- slot j, and the table in it
+-- slot j: 64 states
 abbrev pub slotOf : ℕ → List State → List State
 slotOf j T = take 64 (drop (j * 64) T)
 
+-- the table in slot j: its states before the first of 0 units
 unfoldable pub tableIn : ℕ → List State → List State
 tableIn j T = take (filled (slotOf j T)) (slotOf j T)
 

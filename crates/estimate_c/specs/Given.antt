@@ -21,6 +21,7 @@ use Rattle.text.specs.Rooms.{Rooms, NumbersWritten, TextWritten}
 
 -- ---- the graph call: 0, or the refusal's number; how many states and how many units set aside; the two rooms
 
+-- what is given of a graph call: the number, what stands behind both pointers, and both rooms
 pub record GraphGiven : Type 0 where
   pub number : ℕ
   pub states : ℕ
@@ -40,6 +41,7 @@ graphGiven a states aside = outcomeGiven (a .answer) states aside (a .result) (a
 
 -- ---- a question: 0, or the refusal's number; and its value
 
+-- what is given of a question: the number, and what stands behind the pointer
 pub record ValueGiven : Type 0 where
   pub number : ℕ
   pub value : ℕ
@@ -69,6 +71,7 @@ pub record SpreadGiven : Type 0 where
   pub answer : ValueGiven
   pub room : List ℕ
 
+-- of what the spread answers and leaves
 abbrev pub spreadGiven : SpreadAnswer → ℕ → SpreadGiven
 spreadGiven s value = record { answer = countGiven (s .answer) value; room = s .room }
 
@@ -79,6 +82,7 @@ abbrev pub bytesOf : Written → ℕ
 bytesOf (Bytes n) = n
 bytesOf NoRoom = 0
 
+-- what is given of a list of numbers: how many bytes were written, and the rooms
 pub record NumbersGiven : Type 0 where
   pub bytes : ℕ
   pub rooms : Rooms
@@ -87,6 +91,7 @@ pub record NumbersGiven : Type 0 where
 abbrev pub numbersGiven : NumbersWritten → NumbersGiven
 numbersGiven a = record { bytes = bytesOf (a .answer); rooms = a .rooms }
 
+-- what is given of a text: the same, and the room for its numbers
 pub record TextGiven : Type 0 where
   pub bytes : ℕ
   pub numbers : List ℕ

@@ -32,6 +32,8 @@ use Rattle.promises.proofs.Cycles.{cycles-safe, cycles-tight}
 
 -- Safe, the first half of point 3. For every accepted graph, every path from first node to last and every budget B:
 -- (choice sequences with more misses than B) × 2^48 ≤ (units above B) × N^L.
+-- What stands on the left does not depend on the tracked blocks. So where a graph is worked with several lists of them, each list's units bound
+-- it, the fewest of them too: the smallest of their budgets for an allowance is safe.
 pub safe : (i : Input) → outcomeSays (outcome i) .number ≡ 0 → (path : List ℕ) → isPath i path ≡ true → (B : ℕ)
     → count (over B) (i .ways) (accessesOf i path) * whole ≤ above B (finished i .table) * i .ways ^ length (accessesOf i path)
 safe i ok path p B =

@@ -8,6 +8,7 @@ use Rattle.reading.specs.declared.Read.{Read}
 use Rattle.reading.specs.declared.Read.the-variants.{Numbers, Nothing}
 use Rattle.reading.specs.Reading.{wellFormed, numbersIn}
 
+-- what reading leaves: its answer, and the room for numbers then
 pub record After : Type 0 where
   pub answer : Read
   pub room : List ℕ

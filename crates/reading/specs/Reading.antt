@@ -13,6 +13,7 @@ isGap b = eqb b 32 || eqb b 10
 abbrev pub isDigit : ℕ → Bool
 isDigit b = leb 48 b && leb b 57
 
+-- every byte is a digit
 abbrev pub allDigits : List ℕ → Bool
 allDigits [] = true
 allDigits (b ∷ w) = isDigit b && allDigits w
@@ -39,6 +40,7 @@ wordsFrom w (b ∷ text) =
     let rest = wordsFrom (cond g [] (w ++ (b ∷ []))) text in
     cond g (ended w rest) rest
 
+-- every word is a number
 abbrev pub allNumbers : List (List ℕ) → Bool
 allNumbers [] = true
 allNumbers (w ∷ ws) = isNumber w && allNumbers ws

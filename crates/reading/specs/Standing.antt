@@ -12,6 +12,7 @@ pub record Standing : Type 0 where
   pub progress : Progress
   pub room : List ℕ
 
+-- the two put together
 abbrev pub standing : Progress → List ℕ → Standing
 standing p room = record { progress = p; room = room }
 

@@ -1,4 +1,4 @@
-// The questions put to a finished table, asked of a lent row of states: each is `ask(copy(row), ..)`.
+// The questions put to a finished table, asked of a lent row of states: each copies the row, by value, and asks the copy.
 use crate::row::above_cycles_held;
 use crate::row::above_held;
 use crate::row::budget_held;

@@ -59,6 +59,7 @@ pub record OutcomeSays : Type 0 where
   pub states : ℕ
   pub aside : ℕ
 
+-- of the graph call's outcome
 abbrev pub outcomeSays : Outcome → OutcomeSays
 outcomeSays (Finished n a) = record { number = 0; states = n; aside = a .0 }
 outcomeSays (RefusedOutcome r) = record { number = numberOf r; states = 0; aside = 0 }
@@ -68,18 +69,22 @@ pub record AnswerSays : Type 0 where
   pub number : ℕ
   pub value : ℕ
 
+-- of an answer in units
 abbrev pub amountSays : Amount → AnswerSays
 amountSays (AmountOf u) = record { number = 0; value = u .0 }
 amountSays (RefusedAmount r) = record { number = numberOf r; value = 0 }
 
+-- of an answer in misses
 abbrev pub countSays : Count → AnswerSays
 countSays (Misses m) = record { number = 0; value = m }
 countSays (RefusedCount r) = record { number = numberOf r; value = 0 }
 
+-- of an answer in cycles
 abbrev pub timeSays : Time → AnswerSays
 timeSays (Cycles n) = record { number = 0; value = n }
 timeSays (RefusedTime r) = record { number = numberOf r; value = 0 }
 
+-- of an answer in accesses
 abbrev pub lengthSays : Length → AnswerSays
 lengthSays (AccessesOf n) = record { number = 0; value = n }
 lengthSays (RefusedLength r) = record { number = numberOf r; value = 0 }

@@ -27,10 +27,11 @@ paired P S T = add (map (matched S T) P) []
 abbrev pub less : State → ℕ → State
 less s u = state (s .mask) (s .misses) (unitsOf s - u)
 
--- what is left of a table whose first state is s when u of its units are used, and the place of what is then first
+-- what is left of a table whose first state is s when u of its units are used
 abbrev pub leftAfter : ℕ → State → List State → List State
 leftAfter u s S = cond (eqb (unitsOf s) u) S (less s u ∷ S)
 
+-- the place of what is then first: s, which stands at place i, or the next one where all its units are used
 abbrev pub placeAfter : ℕ → State → ℕ → ℕ
 placeAfter u s i = cond (eqb (unitsOf s) u) (suc i) i
 

@@ -99,6 +99,7 @@ pub record SpreadAnswer : Type 0 where
   pub answer : Count
   pub room : List ℕ
 
+-- the spread of an accepted row goes into the room; a refusal is the answer, and the room stays as it was
 abbrev pub spreadInto : Verdict → List State → List ℕ → SpreadAnswer
 spreadInto Accepted row room =
     record { answer = Misses (largest row); room = spread row ++ replicate (length room - suc (largest row)) 0 }

@@ -76,6 +76,7 @@ verdict i = first (reasons i)
 
 -- ---- what the graph call answers
 
+-- accepted: the finished table's number of states and its set-aside count; refused: the refusal
 abbrev pub answered : Verdict → Input → Outcome
 answered Accepted i = let w = finished i in Finished (length (w .table)) (units (w .aside))
 answered (Refused r) i = RefusedOutcome r

@@ -12,16 +12,19 @@ use Rattle.rules.specs.Longest.{longest}
 use Rattle.text.specs.Writing.{decimal, headWords, countLine, linesBelow}
 use Rattle.text.specs.Printed.{ofNumbers, ofText}
 
--- " longest ", "core ", " hit ", " miss "
+-- " longest "
 abbrev pub longestWord : List ℕ
 longestWord = 32 ∷ 108 ∷ 111 ∷ 110 ∷ 103 ∷ 101 ∷ 115 ∷ 116 ∷ 32 ∷ []
 
+-- "core "
 abbrev pub coreWord : List ℕ
 coreWord = 99 ∷ 111 ∷ 114 ∷ 101 ∷ 32 ∷ []
 
+-- " hit "
 abbrev pub hitWord : List ℕ
 hitWord = 32 ∷ 104 ∷ 105 ∷ 116 ∷ 32 ∷ []
 
+-- " miss "
 abbrev pub missWord : List ℕ
 missWord = 32 ∷ 109 ∷ 105 ∷ 115 ∷ 115 ∷ 32 ∷ []
 

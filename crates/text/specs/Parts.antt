@@ -17,16 +17,19 @@ abbrev pub counted : ℕ → List ℕ → Part
 counted width [] = record { enough = false; numbers = []; rest = [] }
 counted width (k ∷ ns) = record { enough = leb (k * width) (length ns); numbers = take (k * width) ns; rest = drop (k * width) ns }
 
--- the four lists, one behind the other; an edge is two numbers
+-- the tracked blocks, behind the ways and the state limit: the first of four lists, one behind the other
 abbrev pub trackedPart : List ℕ → Part
 trackedPart ns = counted 1 (drop 2 ns)
 
+-- the run lengths, behind the tracked blocks
 abbrev pub runsPart : List ℕ → Part
 runsPart ns = counted 1 (trackedPart ns .rest)
 
+-- the accesses, behind the run lengths
 abbrev pub accessesPart : List ℕ → Part
 accessesPart ns = counted 1 (runsPart ns .rest)
 
+-- the edges, two numbers each, behind the accesses
 abbrev pub edgesPart : List ℕ → Part
 edgesPart ns = counted 2 (accessesPart ns .rest)
 

@@ -15,13 +15,15 @@ decimalFrom (suc k) n = cond (ltb n 10) [] (decimalFrom k (n / 10)) ++ ((48 + n 
 unfoldable pub decimal : ℕ → List ℕ
 decimal n = decimalFrom 20 n
 
--- "states ", " aside ", "refused "
+-- "states "
 abbrev pub statesWord : List ℕ
 statesWord = 115 ∷ 116 ∷ 97 ∷ 116 ∷ 101 ∷ 115 ∷ 32 ∷ []
 
+-- " aside "
 abbrev pub asideWord : List ℕ
 asideWord = 32 ∷ 97 ∷ 115 ∷ 105 ∷ 100 ∷ 101 ∷ 32 ∷ []
 
+-- "refused "
 abbrev pub refusedWord : List ℕ
 refusedWord = 114 ∷ 101 ∷ 102 ∷ 117 ∷ 115 ∷ 101 ∷ 100 ∷ 32 ∷ []
 

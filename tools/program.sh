@@ -1,0 +1,48 @@
+# What tools/curve and tools/cycles share; sourced by them. A command sets `usage` first, what `--help` prints.
+. "$(dirname "${BASH_SOURCE[0]}")/kit.sh"
+
+# NUMBER: the rule of that number in words, as document 01, section 5, has them
+rule() {
+    case $1 in
+    1) echo 'ways outside 1..16' ;;
+    2) echo 'state limit outside 1..64' ;;
+    3) echo 'more than 16 tracked blocks, or one listed twice' ;;
+    4) echo 'more than 4,096 accesses' ;;
+    5) echo 'nodes outside 1..64, run lengths that do not sum to the accesses, or an edge rule broken: an edge goes backwards or to no node, edges are' \
+        'not listed rising by to and then by from, a node but the first has no edge in, or one but the last no edge out' ;;
+    9) echo 'malformed text: something else than numbers between spaces and newlines, a number too large, too many of them, one missing or one left over' ;;
+    esac
+}
+
+# NAME FILE: the program on standard input; what it writes goes on to standard output, and a refusal to standard error as well, in words
+answer() {
+    start "$1" >"$written"
+    cat "$written"
+    local word number
+    read -r word number _ <"$written"
+    [ "$word" = refused ] || return 0
+    echo "${2:+$2: }refused $number: $(rule "$number")" >&2
+    refused=1
+}
+
+# NAME ARGUMENTS: the program on each file, or on standard input where there is none; the exit status is 1 where one was refused
+answer_all() {
+    local name=$1 file
+    shift
+    for file in "$@"; do
+        case $file in
+        --help | -h) echo "$usage"; exit ;;
+        -) ;;
+        -*) echo "$usage" >&2; exit 2 ;;
+        *) [ -r "$file" ] && [ ! -d "$file" ] || { echo "no file that can be read: $file" >&2; exit 2; } ;;
+        esac
+    done
+    build "the $name program" "bin/$name" check "$name"
+    written=$(mktemp) refused=0
+    trap 'rm -f "$written"' EXIT
+    [ $# -gt 0 ] || set -- -
+    for file in "$@"; do
+        if [ "$file" = - ]; then answer "$name" ''; else answer "$name" "$file" <"$file"; fi
+    done
+    exit "$refused"
+}
