@@ -21,14 +21,14 @@ use Rattle.basics.proofs.Sums.{sum-append}
 use Rattle.rules.specs.Units.{whole, more}
 use Rattle.rules.specs.Contents.{bit, has, heldBelow, held, size, without}
 use Rattle.rules.specs.Ordered.{insertAll}
-use Rattle.rules.specs.Table.{state, unitsOf, rising, listed, add, stateAt}
+use Rattle.rules.specs.Table.{state, unitsOf, rising, present, add, stateAt}
 use Rattle.rules.specs.Step.{missed, miss, successors, leftOver, access, accessAside}
 use Rattle.rules.specs.Shape.{Every}
 use Rattle.rules.proofs.Splitting.{more-adds, more-more}
 use Rattle.rules.proofs.Lists.{every-take, every-at, every-weaker, flat-snoc}
 use Rattle.rules.proofs.Contents.{sixteen-places, size-zero}
 use Rattle.rules.proofs.Step.{length-access}
-use Rattle.rules.proofs.Table.{rising-is, rising-so, rising-add, length-listed, length-listed-append, length-add, add-append}
+use Rattle.rules.proofs.Table.{rising-is, rising-so, rising-add, length-present, length-present-append, length-add, add-append}
 use Rattle.estimate.specs.Placing.{Added}
 use Rattle.estimate.specs.Following.{lostAt, Workable}
 
@@ -48,7 +48,7 @@ module _ (S : List State) (n m : ℕ) (T T₁ : List State) (a : Added S n m T T
   pub added-rising : rising (take n T) ≡ true → rising (take m T₁) ≡ true
   added-rising h = rw (a .table) (rising-is (add S (take n T)) (rising-add S (take n T) (rising-so (take n T) h)))
 
-  pub added-length : n ≤ length T → m ≤ length (listed S) + n
+  pub added-length : n ≤ length T → m ≤ length (present S) + n
   added-length room = omega (arith, a .count, length-add S (take n T), length-take-le n T room)
 
 -- ---- each block lost in turn
@@ -80,7 +80,7 @@ module _ (x : Place) (s : State) (q : ℕ) where
 
   pub lost-room : (n m k : ℕ) (T T₁ : List State) → n ≤ length T → Added (lostBelow k) n m T T₁ → m ≤ n + k
   lost-room n m k T T₁ room a =
-      omega (arith, added-length (lostBelow k) n m T T₁ a room, length-listed (lostBelow k), lost-few k)
+      omega (arith, added-length (lostBelow k) n m T T₁ a room, length-present (lostBelow k), lost-few k)
 
   pub lost-all : lostBelow 16 ≡ map (λ e. missed x s (without (s .mask) e) q) (held (s .mask))
   unfolding held
@@ -118,7 +118,7 @@ module _ (x : Place) (s : State) (N q : ℕ) where
         omega (
           arith,
           added-length lostAll n m T T₁ a room,
-          length-listed lostAll,
+          length-present lostAll,
           length-map (held (s .mask)) (λ e. missed x s (without (s .mask) e) q),
         )
 
@@ -130,8 +130,8 @@ module _ (x : Place) (s : State) (N q : ℕ) where
         omega (
           arith,
           added-length (lostAll ++ (t ∷ [])) n r T T₂ (added-then lostAll n m T T₁ a (t ∷ []) r T₂ b) room,
-          length-listed-append lostAll (t ∷ []),
-          length-listed lostAll,
+          length-present-append lostAll (t ∷ []),
+          length-present lostAll,
           length-map (held (s .mask)) (λ e. missed x s (without (s .mask) e) q),
           last (decLt (size (s .mask)) N),
         )
@@ -139,8 +139,8 @@ module _ (x : Place) (s : State) (N q : ℕ) where
         gone : (d : ℕ) → d ≡ 0 → unitsOf t ≡ d * q → eqb (unitsOf t) 0 ≡ true
         gone d w v = eq-eqb (unitsOf t) 0 (v ∙ rw w (omega arith))
 
-        last : Dec (size (s .mask) < N) → length (held (s .mask)) + length (listed (t ∷ [])) ≤ N
-        last (yes l) = omega (arith, length-listed (t ∷ []))
+        last : Dec (size (s .mask) < N) → length (held (s .mask)) + length (present (t ∷ [])) ≤ N
+        last (yes l) = omega (arith, length-present (t ∷ []))
         last (no l) = rw (gone (N - z) (omega arith) (ap unitsOf p)) (omega arith)
 
   pub miss-put : (n m₁ m₂ r : ℕ) (T T₁ T₂ T₃ : List State) (p z : ℕ) (t₁ t₂ : State) → q ≡ unitsOf s / N → p ≡ unitsOf s % N → z ≡ size (s .mask)

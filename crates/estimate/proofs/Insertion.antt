@@ -14,7 +14,7 @@ use borrow.Author.Tests.{lt-ltb, le-ltb, eq-eqb, ne-eqb, ltb-true}
 use Rattle.basics.proofs.Bools.{and-left, and-right}
 use Rattle.rules.specs.declared.State.{State}
 use Rattle.rules.specs.Ordered.{Order, before, same, after, byNumber, thenBy, insert, inserted, insertAll}
-use Rattle.rules.specs.Table.{state, unitsOf, order, rising, plus, listed, add, stateAt}
+use Rattle.rules.specs.Table.{state, unitsOf, order, rising, plus, present, add, stateAt}
 use Rattle.rules.specs.Shape.{Every}
 use Rattle.rules.proofs.Ordered.{number-cases, order-after}
 use Rattle.rules.proofs.Table.{Rising, rising-so}
@@ -219,14 +219,14 @@ pub added-one : (s : State) (n r : ℕ) (T T′ : List State) → (unitsOf s ≡
 unfolding add insertAll
 added-one s n r T T′ some h = record { count = h .count ∙ ap length (sym is); table = h .table ∙ sym is }
   where
-    is : insertAll order plus (listed (s ∷ [])) (take n T) ≡ insert order plus s (take n T)
+    is : insertAll order plus (present (s ∷ [])) (take n T) ≡ insert order plus s (take n T)
     is = rw (ne-eqb (unitsOf s) 0 some)
 
 pub added-none : (s : State) (n : ℕ) (T : List State) → n ≤ length T → unitsOf s ≡ 0 → Added (s ∷ []) n n T T
 unfolding add insertAll
 added-none s n T room none = record { count = sym (length-take-le n T room) ∙ ap length (sym is); table = sym is }
   where
-    is : insertAll order plus (listed (s ∷ [])) (take n T) ≡ take n T
+    is : insertAll order plus (present (s ∷ [])) (take n T) ≡ take n T
     is = rw (eq-eqb (unitsOf s) 0 none)
 
 -- ---- the loop that makes room

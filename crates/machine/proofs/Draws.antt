@@ -13,17 +13,17 @@ use borrow.Author.Tests.{eq-eqb, ne-eqb}
 use Rattle.basics.specs.Sums.{sumOver}
 use Rattle.basics.proofs.Sums.{sumTo, sum-append, sum-map, sum-each}
 use Rattle.machine.specs.Cache.{Cache, start, access, run}
-use Rattle.machine.specs.Draws.{before, draws, count}
+use Rattle.machine.specs.Draws.{withEach, draws, count}
 
 -- there are N ^ L choice sequences of L accesses
 pub draws-many : (N L : ℕ) → length (draws N L) ≡ N ^ L
 draws-many N zero = sym (pow-zero N)
-draws-many N (suc L) = length-before N (draws N L) ∙ ap (N *_) (draws-many N L) ∙ sym (pow-succ' N L)
+draws-many N (suc L) = length-each N (draws N L) ∙ ap (N *_) (draws-many N L) ∙ sym (pow-succ' N L)
   where
-    length-before : (n : ℕ) (ss : List (List ℕ)) → length (before n ss) ≡ n * length ss
-    length-before zero ss = omega arith
-    length-before (suc n) ss =
-        omega (arith, length-append (before n ss) (map (λ s. n ∷ s) ss), length-map ss (λ s. n ∷ s), length-before n ss)
+    length-each : (n : ℕ) (ss : List (List ℕ)) → length (withEach n ss) ≡ n * length ss
+    length-each zero ss = omega arith
+    length-each (suc n) ss =
+        omega (arith, length-append (withEach n ss) (map (λ s. n ∷ s) ss), length-map ss (λ s. n ∷ s), length-each n ss)
 
 -- ---- each stands there once
 
@@ -53,20 +53,20 @@ times-behind d n s ss = sum-map (λ t. cond (same (d ∷ s) t) 1 0) (λ t. n ∷
     go false (t ∷ ss) = omega (arith, go false ss)
 
 -- a draw of n or more is not there; one below n is there once
-draw-above : (d n : ℕ) (s : List ℕ) (ss : List (List ℕ)) → n ≤ d → times (d ∷ s) (before n ss) ≡ 0
+draw-above : (d n : ℕ) (s : List ℕ) (ss : List (List ℕ)) → n ≤ d → times (d ∷ s) (withEach n ss) ≡ 0
 draw-above d zero s ss l = refl
 draw-above d (suc n) s ss l =
-    sum-append (λ t. cond (same (d ∷ s) t) 1 0) (before n ss) (map (λ t. n ∷ t) ss)
+    sum-append (λ t. cond (same (d ∷ s) t) 1 0) (withEach n ss) (map (λ t. n ∷ t) ss)
     ∙ rw (times-behind d n s ss, ne-eqb d n (ne-of-gt l)) (omega (arith, draw-above d n s ss (omega arith)))
 
-draw-below : (d n : ℕ) (s : List ℕ) (ss : List (List ℕ)) → d < n → times (d ∷ s) (before n ss) ≡ times s ss
+draw-below : (d n : ℕ) (s : List ℕ) (ss : List (List ℕ)) → d < n → times (d ∷ s) (withEach n ss) ≡ times s ss
 draw-below d zero s ss l = absurd (not-suc-le-zero l)
 draw-below d (suc n) s ss l =
-    sum-append (λ t. cond (same (d ∷ s) t) 1 0) (before n ss) (map (λ t. n ∷ t) ss)
+    sum-append (λ t. cond (same (d ∷ s) t) 1 0) (withEach n ss) (map (λ t. n ∷ t) ss)
     ∙ go (draw-below d n s ss) (eq-or-lt-of-le (le-of-suc-le-suc l))
   where
-    go : (d < n → times (d ∷ s) (before n ss) ≡ times s ss) → (d ≡ n) ⊎ (d < n)
-        → times (d ∷ s) (before n ss) + times (d ∷ s) (map (λ t. n ∷ t) ss) ≡ times s ss
+    go : (d < n → times (d ∷ s) (withEach n ss) ≡ times s ss) → (d ≡ n) ⊎ (d < n)
+        → times (d ∷ s) (withEach n ss) + times (d ∷ s) (map (λ t. n ∷ t) ss) ≡ times s ss
     go ih (inl e) = rw (times-behind d n s ss, eq-eqb d n e) (omega (arith, draw-above d n s ss (omega arith)))
     go ih (inr h) = rw (times-behind d n s ss, ne-eqb d n (λ e. ne-of-gt h (sym e))) (omega (arith, ih h))
 
@@ -92,10 +92,10 @@ pub total-cons : (F : Cache → ℕ) (N : ℕ) (c : Cache) (b : ℕ) (p : List �
 unfolding total run
 total-cons F N c b p = by-first (λ ds. F (run c (b ∷ p) ds)) N (draws N (length p))
   where
-    by-first : (G : List ℕ → ℕ) (n : ℕ) (ss : List (List ℕ)) → sumOver G (before n ss) ≡ sumTo n (λ d. sumOver (λ s. G (d ∷ s)) ss)
+    by-first : (G : List ℕ → ℕ) (n : ℕ) (ss : List (List ℕ)) → sumOver G (withEach n ss) ≡ sumTo n (λ d. sumOver (λ s. G (d ∷ s)) ss)
     by-first G zero ss = refl
     by-first G (suc n) ss =
-        sum-append G (before n ss) (map (λ s. n ∷ s) ss) ∙ ap₂ _+_ (by-first G n ss) (sum-map G (λ s. n ∷ s) ss)
+        sum-append G (withEach n ss) (map (λ s. n ∷ s) ss) ∙ ap₂ _+_ (by-first G n ss) (sum-map G (λ s. n ∷ s) ss)
 
 -- ---- counts of choice sequences
 

@@ -7,14 +7,14 @@ use Rattle.basics.specs.Sums.{sumOver}
 use Rattle.machine.specs.Cache.{Cache, start, run}
 
 -- each of the ways 0 .. n - 1, drawn before each of the sequences
-abbrev pub before : ℕ → List (List ℕ) → List (List ℕ)
-before zero ss = []
-before (suc n) ss = before n ss ++ map (λ s. n ∷ s) ss
+abbrev pub withEach : ℕ → List (List ℕ) → List (List ℕ)
+withEach zero ss = []
+withEach (suc n) ss = withEach n ss ++ map (λ s. n ∷ s) ss
 
 -- the choice sequences of L accesses: one of N ways for each access
 abbrev pub draws : ℕ → ℕ → List (List ℕ)
 draws N zero = [] ∷ []
-draws N (suc L) = before N (draws N L)
+draws N (suc L) = withEach N (draws N L)
 
 -- the choice sequences of the path p that make of N empty ways a cache that passes the test, counted
 unfoldable pub count : (Cache → Bool) → ℕ → List ℕ → ℕ

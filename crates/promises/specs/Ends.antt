@@ -17,7 +17,7 @@ over B c = ltb B (c .misses)
 -- a path of n accesses that ended in this cache took more cycles than the budget: its misses at miss cycles, its hits, the rest of its
 -- accesses, at hit cycles
 abbrev pub overCycles : Core → ℕ → ℕ → Cache → Bool
-overCycles c n B k = ltb B (cyclesOf c n (k .misses))
+overCycles c n B cache = ltb B (cyclesOf c n (cache .misses))
 
 -- the contents mask of the tracked blocks that the ways hold: bit i for the block at place i of the list
 unfoldable pub contentsOf : List ℕ → List Way → ℕ

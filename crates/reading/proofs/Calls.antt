@@ -11,7 +11,7 @@ use Rattle.reading.specs.declared.Read.{Read}
 use Rattle.reading.specs.declared.Read.the-variants.{Numbers, Nothing}
 use Rattle.reading.specs.Reading.{wellFormed, numbersIn}
 use Rattle.reading.specs.Found.{Found}
-use Rattle.reading.specs.Call.{After, leaves, afterReading}
+use Rattle.reading.specs.Call.{ReadAnswer, readInto, afterReading}
 
 -- how many numbers were read
 abbrev counted : Read → ℕ
@@ -46,30 +46,30 @@ module _ (text room : List ℕ) (p : Progress) (room′ : List ℕ) (long : 1638
 -- ---- what a caller knows whose room is long enough
 
 module _ (text room : List ℕ) (long : 16384 ≤ length room) (r : Read) (room′ : List ℕ) (left : record { answer = r; room = room′ } ≡ afterReading text room) where
-  by-form : record { answer = r; room = room′ } ≡ leaves (wellFormed text) (numbersIn text) room
+  by-form : record { answer = r; room = room′ } ≡ readInto (wellFormed text) (numbersIn text) room
   unfolding afterReading
   by-form = left ∙ rw (le-leb 16384 (length room) long)
 
   pub malformed : r ≡ Nothing → wellFormed text ≡ false
   malformed e = go (wellFormed text) by-form
     where
-      go : (b : Bool) → record { answer = r; room = room′ } ≡ leaves b (numbersIn text) room → b ≡ false
-      go true q = absurd (some-none _ (sym e ∙ ap (λ (a : After). a .answer) q))
+      go : (b : Bool) → record { answer = r; room = room′ } ≡ readInto b (numbersIn text) room → b ≡ false
+      go true q = absurd (some-none _ (sym e ∙ ap (λ (a : ReadAnswer). a .answer) q))
       go false q = refl
 
   module _ (n : ℕ) (e : r ≡ Numbers n) where
     pub well-formed : wellFormed text ≡ true
     well-formed = go (wellFormed text) by-form
       where
-        go : (b : Bool) → record { answer = r; room = room′ } ≡ leaves b (numbersIn text) room → b ≡ true
+        go : (b : Bool) → record { answer = r; room = room′ } ≡ readInto b (numbersIn text) room → b ≡ true
         go true q = refl
-        go false q = absurd (some-none _ (sym (sym e ∙ ap (λ (a : After). a .answer) q)))
+        go false q = absurd (some-none _ (sym (sym e ∙ ap (λ (a : ReadAnswer). a .answer) q)))
 
-    by-numbers : record { answer = Numbers n; room = room′ } ≡ leaves true (numbersIn text) room
-    by-numbers = ap (λ (q : Read). record { answer = q; room = room′ }) (sym e) ∙ by-form ∙ ap (λ (b : Bool). leaves b (numbersIn text) room) well-formed
+    by-numbers : record { answer = Numbers n; room = room′ } ≡ readInto true (numbersIn text) room
+    by-numbers = ap (λ (q : Read). record { answer = q; room = room′ }) (sym e) ∙ by-form ∙ ap (λ (b : Bool). readInto b (numbersIn text) room) well-formed
 
     pub how-many : n ≡ length (numbersIn text)
-    how-many = ap (λ (a : After). counted (a .answer)) by-numbers
+    how-many = ap (λ (a : ReadAnswer). counted (a .answer)) by-numbers
 
     pub numbers-there : take n room′ ≡ numbersIn text
-    numbers-there = ap (λ (a : After). take n (a .room)) by-numbers ∙ take-at (numbersIn text) (drop (length (numbersIn text)) room) n (sym how-many)
+    numbers-there = ap (λ (a : ReadAnswer). take n (a .room)) by-numbers ∙ take-at (numbersIn text) (drop (length (numbersIn text)) room) n (sym how-many)

@@ -9,15 +9,15 @@ use Rattle.reading.specs.declared.Read.the-variants.{Numbers, Nothing}
 use Rattle.reading.specs.Reading.{wellFormed, numbersIn}
 
 -- what reading leaves: its answer, and the room for numbers then
-pub record After : Type 0 where
+pub record ReadAnswer : Type 0 where
   pub answer : Read
   pub room : List ℕ
 
 -- where the text can be read its numbers stand at the front of the room, and what is behind them is as it was; otherwise the room is zero
-abbrev pub leaves : Bool → List ℕ → List ℕ → After
-leaves true ns room = record { answer = Numbers (length ns); room = ns ++ drop (length ns) room }
-leaves false ns room = record { answer = Nothing; room = replicate (length room) 0 }
+abbrev pub readInto : Bool → List ℕ → List ℕ → ReadAnswer
+readInto true ns room = record { answer = Numbers (length ns); room = ns ++ drop (length ns) room }
+readInto false ns room = record { answer = Nothing; room = replicate (length room) 0 }
 
 -- a text can be read that is well formed, into a room for 16,384 numbers, which is enough for every such text
-unfoldable pub afterReading : List ℕ → List ℕ → After
-afterReading text room = leaves (leb 16384 (length room) && wellFormed text) (numbersIn text) room
+unfoldable pub afterReading : List ℕ → List ℕ → ReadAnswer
+afterReading text room = readInto (leb 16384 (length room) && wellFormed text) (numbersIn text) room

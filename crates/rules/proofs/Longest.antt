@@ -18,7 +18,7 @@ use Rattle.rules.specs.Table.{State}
 use Rattle.rules.specs.Graph.{finished}
 use Rattle.rules.specs.Questions.{largest}
 use Rattle.rules.specs.Shape.{Every, Shaped}
-use Rattle.rules.specs.Longest.{mostOf, longestTo, before, upTo, longest}
+use Rattle.rules.specs.Longest.{mostOf, longestTo, longestBefore, upTo, longest}
 use Rattle.rules.proofs.Refusals.{Checked, predecessor-lower, no-predecessor}
 use Rattle.rules.proofs.Run.{table-wider}
 use Rattle.rules.proofs.Graph.{nodeTable, finished-table, first-and-others, first-or-other, offset-next, offset-rises, offset-most, each-node, NodeTable, table-node}
@@ -92,13 +92,13 @@ module _ (ends : List ℕ) where
 
 module _ (i : Input) (ok : Checked i) where
   -- before node j stand no fewer than up to any predecessor of it
-  pub before-each : (j a : ℕ) → among (predecessors (edgesOf (i .edges)) j) a ≡ true → upTo i a ≤ before i j
+  pub before-each : (j a : ℕ) → among (predecessors (edgesOf (i .edges)) j) a ≡ true → upTo i a ≤ longestBefore i j
   before-each j a e =
       rw (longest-at i j a (predecessor-lower i ok a j e .0)) at (most-each (longestTo i j) (predecessors (edgesOf (i .edges)) j) a e)
 
   -- and just as many as up to one of them; only before node 0 there are none
   pub before-one : (j : ℕ) → j < nodes i
-      → ((j ≡ 0) × (before i j ≡ 0)) ⊎ ((a : ℕ) × (among (predecessors (edgesOf (i .edges)) j) a ≡ true) × (upTo i a ≡ before i j))
+      → ((j ≡ 0) × (longestBefore i j ≡ 0)) ⊎ ((a : ℕ) × (among (predecessors (edgesOf (i .edges)) j) a ≡ true) × (upTo i a ≡ longestBefore i j))
   unfolding mostOf
   before-one j l =
       ⊎-elim (λ none. inl (no-predecessor i ok j l none, rw none))
@@ -135,8 +135,8 @@ module _ (i : Input) (ok : Checked i) where
   table-within : (n : ℕ) → n < nodes i → NodeTable i ok (upTo i n) n
   table-within =
       each-node i ok (λ n. NodeTable i ok (upTo i n) n)
-      (λ n l h. rw (add-comm (before i n) (getD (i .lengths) n 0))
-      (table-node i ok (before i n) n l (λ a e. table-wider _ _ _ _ _ (nodeTable i a) (before-each i ok n a e) (h a e))))
+      (λ n l h. rw (add-comm (longestBefore i n) (getD (i .lengths) n 0))
+      (table-node i ok (longestBefore i n) n l (λ a e. table-wider _ _ _ _ _ (nodeTable i a) (before-each i ok n a e) (h a e))))
 
   -- and so are the finished table's those of the longest path
   pub finished-within : largest (finished i .table) ≤ longest i

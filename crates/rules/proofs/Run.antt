@@ -9,7 +9,7 @@ use lib.ListN.{length}
 use lib.Pow.{pow-pos}
 use Rattle.rules.specs.Units.{whole}
 use Rattle.rules.specs.Contents.{Place, size, find}
-use Rattle.rules.specs.Table.{State, begin, listed, total, Work}
+use Rattle.rules.specs.Table.{State, begin, present, total, Work}
 use Rattle.rules.specs.Step.{successors, access}
 use Rattle.rules.specs.Fold.{folded}
 use Rattle.rules.specs.Run.{advance, run}
@@ -82,7 +82,7 @@ module _ (N k K : ℕ) (some : 0 < N) (room : 0 < K) where
       table-folded M _ (rising-join S T) (shaped-join N k M S T (s .shaped) (t .shaped)) (join-total S T (s .full ∙ sym (t .full)) (omega (arith, s .full)) ∙ s .full)
 
 -- an access lists at most 17 × K states before adding, and so gives no more
-pub access-room : (N k K M : ℕ) (x : Place) (T : List State) → N ≤ 16 → Table N k K M T → length (listed (flatMap (successors N x) T)) ≤ 17 * K
+pub access-room : (N k K M : ℕ) (x : Place) (T : List State) → N ≤ 16 → Table N k K M T → length (present (flatMap (successors N x) T)) ≤ 17 * K
 access-room N k K M x T few t =
     omega (arith, length-access N x T (table-fits N k K M T t), mul-le-mul (t .short) (suc-le-suc few))
 

@@ -17,13 +17,13 @@ use Rattle.basics.specs.Sums.{sumOver}
 use Rattle.basics.proofs.Sums.{sum-append, sum-map, sum-times, sum-each}
 use Rattle.rules.specs.Contents.{places, Place, bit, has, with, without, held, size}
 use Rattle.rules.specs.Units.{whole}
-use Rattle.rules.specs.Table.{State, unitsOf, plus, listed, total}
+use Rattle.rules.specs.Table.{State, unitsOf, plus, present, total}
 use Rattle.rules.specs.Step.{missed, miss, successors, leftOver, access}
 use Rattle.rules.specs.Shape.{Every, Listed, Shaped}
 use Rattle.rules.proofs.Splitting.{more-least}
 use Rattle.rules.proofs.Lists.{every-append, every-map, every-flatMap}
 use Rattle.rules.proofs.Contents.{size-zero, size-with, size-moved, every-held, with-lt, without-lt}
-use Rattle.rules.proofs.Table.{length-listed-append, length-listed, every-add, worthOf, worth, worth-add, total-add, one, worth-total}
+use Rattle.rules.proofs.Table.{length-present-append, length-present, every-add, worthOf, worth, worth-add, total-add, one, worth-total}
 
 -- ---- worth
 
@@ -218,7 +218,7 @@ module _ (N k M : ℕ) (x : Place) (some : 0 < N) (place : Listed k x) where
 -- ---- how many are listed
 
 module _ (N : ℕ) (x : Place) where
-  length-successors : (s : State) → size (s .mask) ≤ N → length (listed (successors N x s)) ≤ suc N
+  length-successors : (s : State) → size (s .mask) ≤ N → length (present (successors N x s)) ≤ suc N
   unfolding successors miss size
   length-successors s h = go (has (s .mask) x)
     where
@@ -241,24 +241,24 @@ module _ (N : ℕ) (x : Place) where
       gone : (d : ℕ) → d ≡ 0 → eqb (d * q) 0 ≡ true
       gone d e = rw e (eq-eqb (0 * q) 0 (omega arith))
 
-      last : Dec (size C < N) → length (held C) + length (listed (kept ∷ rest ∷ [])) ≤ suc N
-      last (yes l) = omega (arith, length-listed (kept ∷ rest ∷ []))
-      last (no l) = rw (gone (N - size C) (omega arith)) (omega (arith, length-listed (rest ∷ [])))
+      last : Dec (size C < N) → length (held C) + length (present (kept ∷ rest ∷ [])) ≤ suc N
+      last (yes l) = omega (arith, length-present (kept ∷ rest ∷ []))
+      last (no l) = rw (gone (N - size C) (omega arith)) (omega (arith, length-present (rest ∷ [])))
 
-      go : (a : Bool) → length (listed (cond a (s ∷ []) (lost ++ kept ∷ rest ∷ []))) ≤ suc N
-      go true = omega (arith, length-listed (s ∷ []))
+      go : (a : Bool) → length (present (cond a (s ∷ []) (lost ++ kept ∷ rest ∷ []))) ≤ suc N
+      go true = omega (arith, length-present (s ∷ []))
       go false =
           omega (
             arith,
-            length-listed-append lost (kept ∷ rest ∷ []),
-            length-listed lost,
+            length-present-append lost (kept ∷ rest ∷ []),
+            length-present lost,
             length-map (held C) (λ e. missed x s (without C e) q),
             last (decLt (size C) N),
           )
 
   -- at most N + 1 for each state, 17 with 16 ways
-  pub length-access : (T : List State) → Fits N T → length (listed (flatMap (successors N x) T)) ≤ length T * suc N
+  pub length-access : (T : List State) → Fits N T → length (present (flatMap (successors N x) T)) ≤ length T * suc N
   unfolding flatMap
   length-access [] h = omega arith
   length-access (s ∷ T) h =
-      omega (arith, length-listed-append (successors N x s) (flatMap (successors N x) T), length-successors s (h .0), length-access T (h .1))
+      omega (arith, length-present-append (successors N x s) (flatMap (successors N x) T), length-successors s (h .0), length-access T (h .1))

@@ -13,35 +13,35 @@ use borrow.Author.Tests.{eqb-true, eqb-false}
 use Rattle.basics.specs.Sums.{sumOver}
 use Rattle.rules.specs.Units.{whole}
 use Rattle.rules.specs.Ordered.{same, insert, insertAll, remove}
-use Rattle.rules.specs.Table.{State, unitsOf, order, rising, plus, listed, add, total, stateAt}
+use Rattle.rules.specs.Table.{State, unitsOf, order, rising, plus, present, add, total, stateAt}
 use Rattle.rules.specs.Shape.{Every}
 use Rattle.rules.proofs.Splitting.{more-adds}
 use Rattle.rules.proofs.Ordered.{length-insertAll, every-insertAll, sum-insertAll, InOrder, in-order-rises, rises-in-order, in-order-insertAll, order-same, states-sort}
 
 -- ---- states of 0 units vanish
 
-pub length-listed : (S : List State) → length (listed S) ≤ length S
-length-listed [] = omega arith
-length-listed (s ∷ S) = go (eqb (unitsOf s) 0) (length-listed S)
+pub length-present : (S : List State) → length (present S) ≤ length S
+length-present [] = omega arith
+length-present (s ∷ S) = go (eqb (unitsOf s) 0) (length-present S)
   where
-    go : (b : Bool) → length (listed S) ≤ length S → length (cond b (listed S) (s ∷ listed S)) ≤ suc (length S)
+    go : (b : Bool) → length (present S) ≤ length S → length (cond b (present S) (s ∷ present S)) ≤ suc (length S)
     go true h = omega arith
     go false h = omega arith
 
-pub length-listed-append : (S T : List State) → length (listed (S ++ T)) ≡ length (listed S) + length (listed T)
-length-listed-append [] T = omega arith
-length-listed-append (s ∷ S) T = go (eqb (unitsOf s) 0) (length-listed-append S T)
+pub length-present-append : (S T : List State) → length (present (S ++ T)) ≡ length (present S) + length (present T)
+length-present-append [] T = omega arith
+length-present-append (s ∷ S) T = go (eqb (unitsOf s) 0) (length-present-append S T)
   where
-    go : (b : Bool) → length (listed (S ++ T)) ≡ length (listed S) + length (listed T)
-        → length (cond b (listed (S ++ T)) (s ∷ listed (S ++ T))) ≡ length (cond b (listed S) (s ∷ listed S)) + length (listed T)
+    go : (b : Bool) → length (present (S ++ T)) ≡ length (present S) + length (present T)
+        → length (cond b (present (S ++ T)) (s ∷ present (S ++ T))) ≡ length (cond b (present S) (s ∷ present S)) + length (present T)
     go true h = h
     go false h = omega arith
 
-every-listed : (P : State → Type 0) (S : List State) → Every (λ s. unitsOf s ≢ 0 → P s) S → Every P (listed S)
-every-listed P [] h = tt
-every-listed P (s ∷ S) h = go (eqb (unitsOf s) 0) refl (every-listed P S (h .1))
+every-present : (P : State → Type 0) (S : List State) → Every (λ s. unitsOf s ≢ 0 → P s) S → Every P (present S)
+every-present P [] h = tt
+every-present P (s ∷ S) h = go (eqb (unitsOf s) 0) refl (every-present P S (h .1))
   where
-    go : (b : Bool) → eqb (unitsOf s) 0 ≡ b → Every P (listed S) → Every P (cond b (listed S) (s ∷ listed S))
+    go : (b : Bool) → eqb (unitsOf s) 0 ≡ b → Every P (present S) → Every P (cond b (present S) (s ∷ present S))
     go true e a = a
     go false e a = (h .0 (eqb-false (unitsOf s) 0 e), a)
 
@@ -58,31 +58,31 @@ rising-so T h = rises-in-order order (states-sort .onward) T h
 
 pub rising-add : (S T : List State) → Rising T → Rising (add S T)
 unfolding add
-rising-add S T h = in-order-insertAll order plus states-sort (listed S) T h
+rising-add S T h = in-order-insertAll order plus states-sort (present S) T h
 
-pub length-add : (S T : List State) → length (add S T) ≤ length (listed S) + length T
+pub length-add : (S T : List State) → length (add S T) ≤ length (present S) + length T
 unfolding add
-length-add S T = length-insertAll order plus (listed S) T
+length-add S T = length-insertAll order plus (present S) T
 
 pub length-add-all : (S T : List State) → length (add S T) ≤ length S + length T
-length-add-all S T = omega (arith, length-add S T, length-listed S)
+length-add-all S T = omega (arith, length-add S T, length-present S)
 
 pub every-add : (P : State → Type 0) → ((t s : State) → P t → P (plus t s)) → (S T : List State)
     → Every (λ s. unitsOf s ≢ 0 → P s) S → Every P T → Every P (add S T)
 unfolding add
-every-add P lasts S T h a = every-insertAll order plus P lasts (listed S) T (every-listed P S h) a
+every-add P lasts S T h a = every-insertAll order plus P lasts (present S) T (every-present P S h) a
 
 -- one list after the other
 pub add-append : (S S′ T : List State) → add (S ++ S′) T ≡ add S′ (add S T)
 unfolding add insertAll
-add-append S S′ T = ap (λ (X : List State). insertAll order plus X T) (listed-append S S′) ∙ all-append (listed S) (listed S′) T
+add-append S S′ T = ap (λ (X : List State). insertAll order plus X T) (present-append S S′) ∙ all-append (present S) (present S′) T
   where
-    listed-append : (S S′ : List State) → listed (S ++ S′) ≡ listed S ++ listed S′
-    listed-append [] S′ = refl
-    listed-append (s ∷ S) S′ = go (eqb (unitsOf s) 0) (listed-append S S′)
+    present-append : (S S′ : List State) → present (S ++ S′) ≡ present S ++ present S′
+    present-append [] S′ = refl
+    present-append (s ∷ S) S′ = go (eqb (unitsOf s) 0) (present-append S S′)
       where
-        go : (b : Bool) → listed (S ++ S′) ≡ listed S ++ listed S′
-            → cond b (listed (S ++ S′)) (s ∷ listed (S ++ S′)) ≡ cond b (listed S) (s ∷ listed S) ++ listed S′
+        go : (b : Bool) → present (S ++ S′) ≡ present S ++ present S′
+            → cond b (present (S ++ S′)) (s ∷ present (S ++ S′)) ≡ cond b (present S) (s ∷ present S) ++ present S′
         go true h = h
         go false h = ap (s ∷_) h
 
@@ -107,24 +107,24 @@ unfolding total
 worth-total [] = refl
 worth-total (s ∷ T) = omega (arith, worth-total T)
 
-worth-listed : (f : ℕ → ℕ → ℕ) (S : List State) → worth f (listed S) ≡ worth f S
-worth-listed f [] = refl
-worth-listed f (s ∷ S) = go (eqb (unitsOf s) 0) refl (worth-listed f S)
+worth-present : (f : ℕ → ℕ → ℕ) (S : List State) → worth f (present S) ≡ worth f S
+worth-present f [] = refl
+worth-present f (s ∷ S) = go (eqb (unitsOf s) 0) refl (worth-present f S)
   where
-    go : (b : Bool) → eqb (unitsOf s) 0 ≡ b → worth f (listed S) ≡ worth f S
-        → worth f (cond b (listed S) (s ∷ listed S)) ≡ worthOf f s + worth f S
+    go : (b : Bool) → eqb (unitsOf s) 0 ≡ b → worth f (present S) ≡ worth f S
+        → worth f (cond b (present S) (s ∷ present S)) ≡ worthOf f s + worth f S
     go true e h = rw (eqb-true (unitsOf s) 0 e) (omega arith)
     go false e h = ap (worthOf f s +_) h
 
-total-listed : (S : List State) → total (listed S) ≡ total S
-total-listed S = sym (worth-total (listed S)) ∙ worth-listed one S ∙ worth-total S
+total-present : (S : List State) → total (present S) ≡ total S
+total-present S = sym (worth-total (present S)) ∙ worth-present one S ∙ worth-total S
 
 -- where there are no more units than WHOLE, no sum stops
 pub worth-add : (f : ℕ → ℕ → ℕ) (S T : List State) → total S + total T ≤ whole → worth f (add S T) ≡ worth f S + worth f T
 unfolding add total
 worth-add f S T h =
-    sum-insertAll order plus unitsOf whole (worthOf f) adds (λ s t e l. more-adds (unitsOf t) (unitsOf s) l) (listed S) T (omega (arith, total-listed S))
-    ∙ ap (_+ worth f T) (worth-listed f S)
+    sum-insertAll order plus unitsOf whole (worthOf f) adds (λ s t e l. more-adds (unitsOf t) (unitsOf s) l) (present S) T (omega (arith, total-present S))
+    ∙ ap (_+ worth f T) (worth-present f S)
   where
     adds : (s t : State) → order s t ≡ same → unitsOf t + unitsOf s ≤ whole → worthOf f (plus t s) ≡ worthOf f t + worthOf f s
     adds s t e l = let (p, q) = order-same s t e in rw (p, q, more-adds (unitsOf t) (unitsOf s) l) (omega arith)

@@ -34,13 +34,13 @@ abbrev pub plus : State → State → State
 plus t s = state (t .mask) (t .misses) (more (unitsOf t) (unitsOf s))
 
 -- states of 0 units vanish
-abbrev pub listed : List State → List State
-listed [] = []
-listed (s ∷ S) = cond (eqb (unitsOf s) 0) (listed S) (s ∷ listed S)
+abbrev pub present : List State → List State
+present [] = []
+present (s ∷ S) = cond (eqb (unitsOf s) 0) (present S) (s ∷ present S)
 
 -- the states S, added to the table T
 unfoldable pub add : List State → List State → List State
-add S T = insertAll order plus (listed S) T
+add S T = insertAll order plus (present S) T
 
 -- the units of all states
 unfoldable pub total : List State → ℕ

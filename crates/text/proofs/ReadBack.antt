@@ -19,7 +19,7 @@ use Rattle.rules.proofs.Lists.{every-append}
 use Rattle.rules.proofs.Questions.{units-most, above-most, table-total, table-largest}
 use Rattle.reading.specs.Reading.{isGap, isDigit, allDigits, valueFrom, isNumber, ended, wordsFrom, allNumbers, wellFormed, numbersIn}
 use Rattle.text.specs.Writing.{decimal, countLine, linesBelow, curveLine, curveLines}
-use Rattle.text.specs.Numbers.{listed, triples, seconds}
+use Rattle.text.specs.Numbers.{spaced, triples, seconds}
 use Rattle.text.proofs.Decimals.{decimal-digits, decimal-value, decimal-some, decimal-number}
 
 -- ---- words
@@ -54,24 +54,24 @@ values-read : (M : ℕ) → M < 10 ^ 20 → (ns : List ℕ) → Every (λ n. n �
 values-read M l [] h = refl
 values-read M l (n ∷ ns) h = ap₂ _∷_ (decimal-value n (omega (arith, h .0))) (values-read M l ns (h .1))
 
-listed-words : (ns : List ℕ) → wordsFrom [] (listed ns) ≡ map decimal ns
-unfolding listed wordsFrom
-listed-words [] = refl
-listed-words (n ∷ ns) = word-decimal n 32 (listed ns) refl ∙ ap (λ (ws : List (List ℕ)). decimal n ∷ ws) (listed-words ns)
+spaced-words : (ns : List ℕ) → wordsFrom [] (spaced ns) ≡ map decimal ns
+unfolding spaced wordsFrom
+spaced-words [] = refl
+spaced-words (n ∷ ns) = word-decimal n 32 (spaced ns) refl ∙ ap (λ (ws : List (List ℕ)). decimal n ∷ ws) (spaced-words ns)
 
 all-numbers : (ns : List ℕ) → Every (λ n. n ≤ 4294967295) ns → allNumbers (map decimal ns) ≡ true
 all-numbers [] h = refl
 all-numbers (n ∷ ns) h = both (isNumber (decimal n)) (allNumbers (map decimal ns)) (decimal-number n (h .0)) (all-numbers ns (h .1))
 
 module _ (ns : List ℕ) (h : Every (λ n. n ≤ 4294967295) ns) where
-  pub numbers-read : numbersIn (listed ns) ≡ ns
+  pub numbers-read : numbersIn (spaced ns) ≡ ns
   unfolding numbersIn
-  numbers-read = rw (listed-words ns) (values-read 4294967295 (omega arith) ns h)
+  numbers-read = rw (spaced-words ns) (values-read 4294967295 (omega arith) ns h)
 
-  pub numbers-formed : length ns ≤ 16384 → length (listed ns) ≤ 65536 → wellFormed (listed ns) ≡ true
+  pub numbers-formed : length ns ≤ 16384 → length (spaced ns) ≤ 65536 → wellFormed (spaced ns) ≡ true
   unfolding wellFormed
   numbers-formed l k =
-      rw (listed-words ns, le-leb (length (listed ns)) 65536 k, all-numbers ns h, length-map ns decimal) (le-leb (length ns) 16384 l)
+      rw (spaced-words ns, le-leb (length (spaced ns)) 65536 k, all-numbers ns h, length-map ns decimal) (le-leb (length ns) 16384 l)
 
 -- ---- the words of a curve's lines: of one line, of those below m, and of all
 

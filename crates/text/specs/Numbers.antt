@@ -6,9 +6,9 @@ use Rattle.rules.specs.Questions.{unitsAt, above}
 use Rattle.text.specs.Writing.{decimal}
 
 -- each number and a space
-unfoldable pub listed : List ℕ → List ℕ
-listed [] = []
-listed (n ∷ ns) = decimal n ++ (32 ∷ listed ns)
+unfoldable pub spaced : List ℕ → List ℕ
+spaced [] = []
+spaced (n ∷ ns) = decimal n ++ (32 ∷ spaced ns)
 
 -- misses, units there, units above, for each miss count below m
 unfoldable pub triples : ℕ → List State → List ℕ
