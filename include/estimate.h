@@ -5,10 +5,10 @@
  * A stretch of memory is passed as a pointer and how many elements it has; an empty one may be NULL and 0. A pointer to one value (states, aside, units, budget,
  * largest, longest, cycles) is never NULL, and what is lent for writing overlaps nothing else that is passed: these two things the caller has to see to.
  *
- * A call keeps no state: nothing is left of it but what it wrote to the memory that it was lent. So calls may run at the same time, in threads or one interrupting
- * another, as long as what each is lent for writing is lent to it alone. They use no heap, and no memory but what they are lent and the stack, of which 4,096 bytes are
- * enough: no function calls itself, and a painted stack showed 736 bytes for the graph call and 1,384 for the deepest, the text of the curves in cycles, on each of the
- * large inputs that were tried.
+ * A call keeps no state: nothing is left of it but what it wrote to the memory that it was lent. So the functions are reentrant, and calls may run at the same
+ * time, in threads or one interrupting another, as long as what each is lent for writing is lent to it alone. They use no heap, and no memory but what they
+ * are lent and the stack, of which 4,096 bytes are enough: no function calls itself, and a painted stack showed 736 bytes for the graph call and 1,384 for the
+ * deepest, the text of the curves in cycles, on each of the large inputs that were tried.
  *
  * Linked from libestimate_c.a, for x86-64, which takes of the C library only memcpy and memset. `rt staticlib estimate_c` makes it:
  *
