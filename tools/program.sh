@@ -1,5 +1,4 @@
 # What tools/curve and tools/cycles share; sourced by them. A command sets `usage` first, what `--help` prints.
-. "$(dirname "${BASH_SOURCE[0]}")/kit.sh"
 
 # NUMBER: the rule of that number in words, as document 01, section 5, has them
 rule() {
@@ -37,6 +36,7 @@ answer_all() {
         *) [ -r "$file" ] && [ ! -d "$file" ] || { echo "no file that can be read: $file" >&2; exit 2; } ;;
         esac
     done
+    . "$(dirname "${BASH_SOURCE[0]}")/kit.sh"
     build "the $name program" "bin/$name" check "$name"
     written=$(mktemp) refused=0
     trap 'rm -f "$written"' EXIT
