@@ -340,18 +340,20 @@ static struct lent lent_to(const struct kind *kind)
     return (struct lent){ESTIMATE_NUMBERS, ESTIMATE_RESULT_WORDS, ESTIMATE_WORK_WORDS, ESTIMATE_SPREAD_COUNTS, kind->output_bytes};
 }
 
-/* The rooms after a curve call: the text and behind it what was there; all other rooms zero as far as they were lent. */
-static void check_curve_rooms(struct run *run, const struct rooms *rooms, const struct lent *lent, size_t length)
+/* The rooms after a curve call: the text and behind it what was there; the numbers zero; the rooms that are worked in zero, or as they were
+ * if the text is a refusal; nothing written beyond what was lent. */
+static void check_curve_rooms(struct run *run, const struct rooms *rooms, const struct lent *lent, size_t length, bool refused)
 {
     const size_t word = sizeof(uint64_t), half = sizeof(uint32_t);
+    const unsigned char worked_in = refused ? PATTERN_BYTE : 0;
     expect(run, bytes_are(rooms->output, length, lent->output + GUARD, PATTERN_BYTE), "output room behind the text changed");
     expect(run, bytes_are(rooms->numbers, 0, lent->numbers * half, 0), "number room not zero");
     expect(run, bytes_are(rooms->numbers, lent->numbers * half, sizeof rooms->numbers, PATTERN_BYTE), "written beyond the numbers");
-    expect(run, bytes_are(rooms->result, 0, lent->result * word, 0), "result room not zero after a curve");
+    expect(run, bytes_are(rooms->result, 0, lent->result * word, worked_in), "result room after a curve");
     expect(run, bytes_are(rooms->result, lent->result * word, sizeof rooms->result, PATTERN_BYTE), "written beyond the result");
-    expect(run, bytes_are(rooms->work, 0, lent->work * word, 0), "working room not zero after a curve");
+    expect(run, bytes_are(rooms->work, 0, lent->work * word, worked_in), "working room after a curve");
     expect(run, bytes_are(rooms->work, lent->work * word, sizeof rooms->work, PATTERN_BYTE), "written beyond the work");
-    expect(run, bytes_are(rooms->counts, 0, lent->counts * word, 0), "spread room not zero after a curve");
+    expect(run, bytes_are(rooms->counts, 0, lent->counts * word, worked_in), "spread room after a curve");
     expect(run, bytes_are(rooms->counts, lent->counts * word, sizeof rooms->counts, PATTERN_BYTE), "written beyond the counts");
 }
 
@@ -383,15 +385,16 @@ static void compare_curve(struct run *run, const struct kind *kind, const struct
     static unsigned char plain[PLAIN_CYCLES_OUTPUT_BYTES];
     struct lent lent = lent_to(kind);
     size_t plain_length = kind->plain(text->list, text->bytes, plain);
+    bool refused = refusal_in(plain, plain_length) != 0;
     counted[refusal_in(plain, plain_length)]++;
     size_t length = curve_of_text(kind, text, rooms, &lent);
     expect(run, length == plain_length && memcmp(rooms->output, plain, length) == 0, kind->text_differs);
-    check_curve_rooms(run, rooms, &lent, length);
+    check_curve_rooms(run, rooms, &lent, length, refused);
     if (numbers != NULL && numbers->count <= ESTIMATE_NUMBERS && text->bytes <= 65536) {
         lent.numbers = 0;
         length = curve_of_numbers(kind, numbers, rooms, &lent);
         expect(run, length == plain_length && memcmp(rooms->output, plain, length) == 0, kind->numbers_differ);
-        check_curve_rooms(run, rooms, &lent, length);
+        check_curve_rooms(run, rooms, &lent, length, refused);
     }
 }
 
