@@ -24,7 +24,7 @@
 struct run {
     uint64_t seed, number;
     unsigned long graphs[NUMBERS], longest_paths[NUMBERS];
-    unsigned long questions[NUMBERS], cycle_questions[NUMBERS];
+    unsigned long questions[NUMBERS], cycle_questions[NUMBERS], row_questions[NUMBERS];
     unsigned long texts[NUMBERS], cycle_texts[NUMBERS];
     unsigned long short_rooms, differences;
 };
@@ -167,10 +167,20 @@ static uint64_t compare_longest_path(struct run *run, const struct input *input)
 
 /* ---- The questions ---- */
 
-/* A row as words, as the library takes it. */
-struct row_words {
-    uint64_t list[3 * INPUT_ROW_ROOM];
+/* A row as the library takes it: as words, and as states. */
+struct taken {
+    uint64_t words[3 * INPUT_ROW_ROOM];
+    struct estimate_state states[INPUT_ROW_ROOM];
 };
+
+static void take_row(struct taken *taken, const struct row *row)
+{
+    memcpy(taken->words, row->list, sizeof taken->words);
+    for (size_t i = 0; i < INPUT_ROW_ROOM; i++)
+        taken->states[i] = (struct estimate_state){
+            .mask = row->list[i].mask, .misses = row->list[i].misses, .units = row->list[i].units,
+        };
+}
 
 /* A row of which fewer words are lent than it has states is no table: plain C is asked about none of its states. */
 static size_t states_lent(const struct row *row)
@@ -178,38 +188,63 @@ static size_t states_lent(const struct row *row)
     return row->words / 3 < row->states ? 0 : row->states;
 }
 
-static void compare_above(struct run *run, const struct row *row, const struct row_words *words, uint64_t budget)
+/* The states that are lent as a row: those that plain C is asked about. */
+static const struct estimate_state *row_or_null(const struct run *run, const struct row *row, const struct taken *taken)
 {
-    uint64_t units = PATTERN, plain_units = PATTERN;
-    uint64_t ours = estimate_above(words->list, row->words, row->states, budget, &units);
+    return states_lent(row) == 0 && run->number / 8 % 2 == 1 ? NULL : taken->states;
+}
+
+/* What is counted of a question that was put to the words and to the row. */
+static void count_question(struct run *run, unsigned long *counted, int plain)
+{
+    counted[plain]++;
+    run->row_questions[plain]++;
+}
+
+static void compare_above(struct run *run, const struct row *row, const struct taken *taken, uint64_t budget)
+{
+    uint64_t units = PATTERN, row_units = PATTERN, plain_units = PATTERN;
+    uint64_t ours = estimate_above(taken->words, row->words, row->states, budget, &units);
+    uint64_t of_row = estimate_row_above(row_or_null(run, row, taken), states_lent(row), budget, &row_units);
     int plain = plain_above(row->list, states_lent(row), budget, &plain_units);
-    run->questions[plain]++;
+    count_question(run, run->questions, plain);
     expect(run, ours == (uint64_t)plain, "refusal of the units above");
     expect(run, units == plain_units, "units above");
+    expect(run, of_row == (uint64_t)plain, "refusal of a row's units above");
+    expect(run, row_units == plain_units, "a row's units above");
 }
 
-static void compare_budget(struct run *run, const struct row *row, const struct row_words *words, uint64_t allowance)
+static void compare_budget(struct run *run, const struct row *row, const struct taken *taken, uint64_t allowance)
 {
-    uint64_t budget = PATTERN, plain_budget = PATTERN;
-    uint64_t ours = estimate_smallest_budget(words->list, row->words, row->states, allowance, &budget);
+    uint64_t budget = PATTERN, row_budget = PATTERN, plain_budget = PATTERN;
+    uint64_t ours = estimate_smallest_budget(taken->words, row->words, row->states, allowance, &budget);
+    uint64_t of_row = estimate_row_smallest_budget(row_or_null(run, row, taken), states_lent(row), allowance, &row_budget);
     int plain = plain_smallest_budget(row->list, states_lent(row), allowance, &plain_budget);
-    run->questions[plain]++;
+    count_question(run, run->questions, plain);
     expect(run, ours == (uint64_t)plain, "refusal of the smallest budget");
     expect(run, budget == plain_budget, "smallest budgets");
+    expect(run, of_row == (uint64_t)plain, "refusal of a row's smallest budget");
+    expect(run, row_budget == plain_budget, "a row's smallest budgets");
 }
 
-static void compare_spread(struct run *run, const struct row *row, const struct row_words *words, size_t room)
+static void compare_spread(struct run *run, const struct row *row, const struct taken *taken, size_t room)
 {
-    uint64_t counts[ESTIMATE_SPREAD_COUNTS + GUARD], plain_counts[ESTIMATE_SPREAD_COUNTS + GUARD];
-    uint64_t largest = PATTERN, plain_largest = PATTERN;
+    uint64_t counts[ESTIMATE_SPREAD_COUNTS + GUARD], row_counts[ESTIMATE_SPREAD_COUNTS + GUARD];
+    uint64_t plain_counts[ESTIMATE_SPREAD_COUNTS + GUARD];
+    uint64_t largest = PATTERN, row_largest = PATTERN, plain_largest = PATTERN;
     memset(counts, PATTERN_BYTE, sizeof counts);
+    memset(row_counts, PATTERN_BYTE, sizeof row_counts);
     memset(plain_counts, PATTERN_BYTE, sizeof plain_counts);
-    uint64_t ours = estimate_spread(words->list, row->words, row->states, room_or_null(run, counts, room), room, &largest);
+    uint64_t ours = estimate_spread(taken->words, row->words, row->states, room_or_null(run, counts, room), room, &largest);
+    uint64_t of_row = estimate_row_spread(row_or_null(run, row, taken), states_lent(row), room_or_null(run, row_counts, room), room, &row_largest);
     int plain = plain_spread(row->list, states_lent(row), plain_counts, room, &plain_largest);
-    run->questions[plain]++;
+    count_question(run, run->questions, plain);
     expect(run, ours == (uint64_t)plain, "refusal of the spread");
     expect(run, largest == plain_largest, "largest misses of a spread");
     expect(run, memcmp(counts, plain_counts, sizeof counts) == 0, "spread rooms");
+    expect(run, of_row == (uint64_t)plain, "refusal of a row's spread");
+    expect(run, row_largest == plain_largest, "largest misses of a row's spread");
+    expect(run, memcmp(row_counts, plain_counts, sizeof row_counts) == 0, "spread rooms of a row");
 }
 
 /* The largest miss count of a row, of those that a table may have. */
@@ -224,20 +259,20 @@ static uint64_t largest_misses(const struct row *row)
 /* Budgets, allowances and rooms: random ones, and those on the borders of this row. */
 static void compare_questions(struct run *run, struct generator *from, const struct row *row)
 {
-    struct row_words words;
+    struct taken taken;
     uint64_t largest = largest_misses(row), units = 0;
-    memcpy(words.list, row->list, sizeof words.list);
+    take_row(&taken, row);
     uint64_t budget = draw_below(from, (uint32_t)largest + 2);
     plain_above(row->list, states_lent(row), budget, &units);
     const uint64_t budgets[] = {0, budget, largest, UINT64_MAX};
     const uint64_t allowances[] = {0, units, units - 1, draw(from) % PLAIN_WHOLE, PLAIN_WHOLE, UINT64_MAX};
     const size_t rooms[] = {0, largest, largest + 1, draw_below(from, ESTIMATE_SPREAD_COUNTS), ESTIMATE_SPREAD_COUNTS};
     for (size_t i = 0; i < sizeof budgets / sizeof *budgets; i++)
-        compare_above(run, row, &words, budgets[i]);
+        compare_above(run, row, &taken, budgets[i]);
     for (size_t i = 0; i < sizeof allowances / sizeof *allowances; i++)
-        compare_budget(run, row, &words, allowances[i]);
+        compare_budget(run, row, &taken, allowances[i]);
     for (size_t i = 0; i < sizeof rooms / sizeof *rooms; i++)
-        compare_spread(run, row, &words, rooms[i]);
+        compare_spread(run, row, &taken, rooms[i]);
 }
 
 /* ---- The questions in cycles ---- */
@@ -245,7 +280,7 @@ static void compare_questions(struct run *run, struct generator *from, const str
 /* What a question is put to. */
 struct asked {
     const struct row *row;
-    const struct row_words *words;
+    const struct taken *taken;
     size_t core;
     uint64_t longest;
 };
@@ -253,23 +288,31 @@ struct asked {
 static void compare_above_cycles(struct run *run, const struct asked *asked, uint64_t budget)
 {
     const struct row *row = asked->row;
-    uint64_t units = PATTERN, plain_units = PATTERN;
-    uint64_t ours = estimate_above_cycles(asked->words->list, row->words, row->states, asked->core, asked->longest, budget, &units);
+    uint64_t units = PATTERN, row_units = PATTERN, plain_units = PATTERN;
+    uint64_t ours = estimate_above_cycles(asked->taken->words, row->words, row->states, asked->core, asked->longest, budget, &units);
+    uint64_t of_row = estimate_row_above_cycles(row_or_null(run, row, asked->taken), states_lent(row), asked->core, asked->longest, budget,
+                                                &row_units);
     int plain = plain_above_cycles(row->list, states_lent(row), asked->core, asked->longest, budget, &plain_units);
-    run->cycle_questions[plain]++;
+    count_question(run, run->cycle_questions, plain);
     expect(run, ours == (uint64_t)plain, "refusal of the units above a cycle budget");
     expect(run, units == plain_units, "units above a cycle budget");
+    expect(run, of_row == (uint64_t)plain, "refusal of a row's units above a cycle budget");
+    expect(run, row_units == plain_units, "a row's units above a cycle budget");
 }
 
 static void compare_smallest_cycles(struct run *run, const struct asked *asked, uint64_t allowance)
 {
     const struct row *row = asked->row;
-    uint64_t cycles = PATTERN, plain_smallest = PATTERN;
-    uint64_t ours = estimate_smallest_cycles(asked->words->list, row->words, row->states, asked->core, asked->longest, allowance, &cycles);
+    uint64_t cycles = PATTERN, row_cycles = PATTERN, plain_smallest = PATTERN;
+    uint64_t ours = estimate_smallest_cycles(asked->taken->words, row->words, row->states, asked->core, asked->longest, allowance, &cycles);
+    uint64_t of_row = estimate_row_smallest_cycles(row_or_null(run, row, asked->taken), states_lent(row), asked->core, asked->longest,
+                                                   allowance, &row_cycles);
     int plain = plain_smallest_cycles(row->list, states_lent(row), asked->core, asked->longest, allowance, &plain_smallest);
-    run->cycle_questions[plain]++;
+    count_question(run, run->cycle_questions, plain);
     expect(run, ours == (uint64_t)plain, "refusal of the smallest cycle budget");
     expect(run, cycles == plain_smallest, "smallest cycle budgets");
+    expect(run, of_row == (uint64_t)plain, "refusal of a row's smallest cycle budget");
+    expect(run, row_cycles == plain_smallest, "a row's smallest cycle budgets");
 }
 
 /* Budgets at the cycles of no misses, of a state's and of the largest, one less, and at both ends; allowances at the units above one of
@@ -297,19 +340,22 @@ static void compare_core(struct run *run, struct generator *from, const struct a
     }
 }
 
-/* Every core and some that there are not, with the longest path that is handed in and with others: on both sides of the largest miss count
- * and of 4,096, and far beyond. */
+/* Three of the cores, others for another row, and some that there are not, with the longest path that is handed in and with others: on both sides of the
+ * largest miss count and of 4,096, and far beyond. */
 static void compare_cycle_questions(struct run *run, struct generator *from, const struct row *row, uint64_t longest)
 {
-    struct row_words words;
+    struct taken taken;
     uint64_t largest = largest_misses(row), bit_32 = (uint64_t)1 << 32;
     const uint64_t lengths[] = {longest, largest, largest - 1, 4096, 4097, bit_32 + longest, draw(from)};
     const size_t no_cores[] = {PLAIN_CORES, PLAIN_CORES + 1, bit_32 + draw_below(from, PLAIN_CORES), draw(from) | bit_32, SIZE_MAX};
-    memcpy(words.list, row->list, sizeof words.list);
+    const size_t which = draw_below(from, 4);
+    take_row(&taken, row);
     for (size_t i = 0; i < PLAIN_CORES + sizeof no_cores / sizeof *no_cores; i++) {
+        if (i < PLAIN_CORES && i % 4 != which)
+            continue;
         size_t core = i < PLAIN_CORES ? i : no_cores[i - PLAIN_CORES];
         for (size_t j = 0; j < sizeof lengths / sizeof *lengths; j++)
-            compare_core(run, from, &(struct asked){row, &words, core, lengths[j]});
+            compare_core(run, from, &(struct asked){row, &taken, core, lengths[j]});
     }
 }
 
@@ -528,13 +574,15 @@ static void print_run(const struct run *run)
     print_counts("longest paths", run->longest_paths);
     print_counts("questions", run->questions);
     print_counts("questions in cycles", run->cycle_questions);
+    print_counts("questions of rows, in misses and in cycles", run->row_questions);
     print_counts("texts", run->texts);
     print_counts("texts in cycles", run->cycle_texts);
     printf("curves in a room too short: %lu, and as many in cycles\n", run->short_rooms);
     printf("compared: %lu graphs (%lu accepted, %lu refused), %lu questions, %lu texts", total_of(run->graphs, 0),
            run->graphs[0], total_of(run->graphs, 1), total_of(run->questions, 0), total_of(run->texts, 0));
-    printf(", %lu longest paths, %lu questions in cycles, %lu texts in cycles, %lu differences\n", total_of(run->longest_paths, 0),
-           total_of(run->cycle_questions, 0), total_of(run->cycle_texts, 0), run->differences);
+    printf(", %lu longest paths, %lu questions in cycles, %lu texts in cycles", total_of(run->longest_paths, 0),
+           total_of(run->cycle_questions, 0), total_of(run->cycle_texts, 0));
+    printf(", %lu questions of rows, %lu differences\n", total_of(run->row_questions, 0), run->differences);
 }
 
 int main(int argument_count, char **arguments)

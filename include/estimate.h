@@ -7,8 +7,8 @@
  *
  * A call keeps no state: nothing is left of it but what it wrote to the memory that it was lent. So the functions are reentrant, and calls may run at the same
  * time, in threads or one interrupting another, as long as what each is lent for writing is lent to it alone. They use no heap, and no memory but what they
- * are lent and the stack, of which 4,096 bytes are enough: no function calls itself, and a painted stack showed 736 bytes for the graph call and 1,384 for the
- * deepest, the text of the curves in cycles, on each of the large inputs that were tried.
+ * are lent and the stack, of which 4,096 bytes are enough: no function calls itself, and a painted stack showed 736 bytes for the graph call and 3,272 for the
+ * deepest, a question put to a row of states, on each of the large inputs that were tried.
  *
  * Linked from libestimate_c.a, for x86-64, which takes of the C library only memcpy and memset. `rt staticlib estimate_c` makes it:
  *
@@ -36,8 +36,12 @@ extern "C" {
 #define ESTIMATE_MOST_NODES 64
 #define ESTIMATE_MOST_ACCESSES 4096
 
-/* A state is three words: the contents mask (bit i: the tracked block at place i is surely held), the misses, the units. */
+/* A state is three words: the contents mask (bit i: the tracked block at place i is surely held), the misses, the units. A table is words, three for each state, or
+ * a row of these. */
 #define ESTIMATE_STATE_WORDS 3
+struct estimate_state {
+    uint64_t mask, misses, units;
+};
 
 /* Rooms that are long enough whatever comes in: of a result, of the work, of a spread, of the numbers of a text, of a curve's text,
  * and of the text of the curves in cycles. */
@@ -109,6 +113,13 @@ uint64_t estimate_above_cycles(const uint64_t *table, size_t words, size_t state
 
 /* The smallest cycle budget whose units above are at most `allowance` goes to `*cycles`; of an allowance of ESTIMATE_WHOLE or more that is 0. */
 uint64_t estimate_smallest_cycles(const uint64_t *table, size_t words, size_t states, size_t core, uint64_t longest, uint64_t allowance, uint64_t *cycles);
+
+/* The same five questions, put to a row of `states` states. Each gives what the one above gives for the words of the row, and writes as that does. */
+uint64_t estimate_row_above(const struct estimate_state *row, size_t states, uint64_t budget, uint64_t *units);
+uint64_t estimate_row_smallest_budget(const struct estimate_state *row, size_t states, uint64_t allowance, uint64_t *budget);
+uint64_t estimate_row_spread(const struct estimate_state *row, size_t states, uint64_t *counts, size_t counts_room, uint64_t *largest);
+uint64_t estimate_row_above_cycles(const struct estimate_state *row, size_t states, size_t core, uint64_t longest, uint64_t budget, uint64_t *units);
+uint64_t estimate_row_smallest_cycles(const struct estimate_state *row, size_t states, size_t core, uint64_t longest, uint64_t allowance, uint64_t *cycles);
 
 /* The curve of a text of numbers, as the curve program writes it, a refusal too: it goes to the front of `output`, whose rest stays as it was. Gives how many
  * bytes that are, at least one. `numbers` is then zero; so are `result`, `work` and `counts`, unless the text is a refusal, which leaves these three as they were. Gives

@@ -8,7 +8,7 @@ use Rattle.rules.specs.Questions.{SpreadAnswer}
 use Rattle.estimate.specs.Call.{After}
 use Rattle.text.specs.declared.Written.{Written}
 use Rattle.text.specs.Rooms.{Rooms, NumbersWritten, TextWritten}
-use Rattle.estimate_c.specs.Given.{outcomeGiven, graphGiven, spreadGiven, bytesOf, numbersGiven, textGiven}
+use Rattle.estimate_c.specs.Given.{ValueGiven, outcomeGiven, graphGiven, countGiven, spreadGiven, bytesOf, numbersGiven, textGiven}
 
 pub graph-given : {o p : Outcome} {result work : List ℕ} (a : After) (states aside : ℕ)
     → o ≡ p
@@ -17,12 +17,18 @@ pub graph-given : {o p : Outcome} {result work : List ℕ} (a : After) (states a
 graph-given {result = result} {work = work} a states aside told leaves =
     ap (λ q. outcomeGiven q states aside result work) (sym told) ∙ ap (λ b. graphGiven b states aside) leaves
 
-pub spread-given : {o p : Count} {room : List ℕ} (a : SpreadAnswer) (value : ℕ)
+-- what is given of an answer: `o` is what the question answered, and `p` what it has to answer
+pub value-given : {A : Type 0} (given : A → ℕ → ValueGiven) {g : ValueGiven} {o p : A} {value : ℕ}
+    → g ≡ given o value
     → o ≡ p
+    → g ≡ given p value
+value-given given {value = value} said answered = said ∙ ap (λ q. given q value) answered
+
+pub spread-given : {g : ValueGiven} {o : Count} {room : List ℕ} {a : SpreadAnswer} (value : ℕ)
+    → g ≡ countGiven o value
     → record { answer = o; room = room } ≡ a
-    → spreadGiven (record { answer = p; room = room }) value ≡ spreadGiven a value
-spread-given {room = room} a value told leaves =
-    ap (λ q. spreadGiven (record { answer = q; room = room }) value) (sym told) ∙ ap (λ b. spreadGiven b value) leaves
+    → record { answer = g; room = room } ≡ spreadGiven a value
+spread-given {room = room} value said leaves = ap (λ h. record { answer = h; room = room }) said ∙ ap (λ b. spreadGiven b value) leaves
 
 -- a text has n bytes, where the answer of its call says so
 pub numbers-given : {o : Written} {rooms : Rooms} (a : NumbersWritten) (n : ℕ)

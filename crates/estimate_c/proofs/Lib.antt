@@ -1,3 +1,5 @@
 -- Proofs of the functions for C.
 pub mod Given
 pub mod NeverEmpty
+-- Questions of some numbers, put to a lent row
+pub mod Giving

@@ -1,5 +1,5 @@
 // The estimate for C: what include/estimate.h declares. Each function calls the one in Rattle that answers (`estimate_graph` calls `analyse`, the questions call
-// those of a table in words), and gives the answer as numbers.
+// those of a table in words or of a lent row), and gives the answer as numbers.
 use estimate::analyse;
 use longest::longest_path;
 use questions::above_cycles_in;
@@ -7,10 +7,16 @@ use questions::above_in;
 use questions::smallest_budget_in;
 use questions::smallest_cycles_in;
 use questions::spread_in;
+use rows::above;
+use rows::above_cycles;
+use rows::smallest_budget;
+use rows::smallest_cycles;
+use rows::spread;
 use rules::Amount;
 use rules::Count;
 use rules::Length;
 use rules::Outcome;
+use rules::State;
 use rules::Time;
 use text::Written;
 use text::curve_of_numbers;
@@ -54,18 +60,51 @@ pub extern "C" fn estimate_graph(
     }
 }
 
-// The units above a budget.
-#[no_mangle]
-pub extern "C" fn estimate_above(table: &[u64], states: usize, budget: u64, units: &mut u64) -> u64
-    ensures { λ r. ⌜ record { number = r; value = now (units .exit) } ≡ amountGiven (aboveAnswer (take states (tableOf (now (table .entry)))) budget) (now (units .entry)) ⌝ }
+// The answer of a question as a number, 0 or the refusal's, and its value: units,
+fn give_amount(answer: Amount, units: &mut u64) -> u64
+    ensures { λ r. ⌜ record { number = r; value = now (units .exit) } ≡ amountGiven answer (now (units .entry)) ⌝ }
 {
-    match above_in(table, states, budget) {
+    match answer {
         Amount::Units(found) => {
             *units = found.0;
             0
         }
         Amount::Refused(reason) => reason.number(),
     }
+}
+
+// a miss count,
+fn give_count(answer: Count, misses: &mut u64) -> u64
+    ensures { λ r. ⌜ record { number = r; value = now (misses .exit) } ≡ countGiven answer (now (misses .entry)) ⌝ }
+{
+    match answer {
+        Count::Misses(found) => {
+            *misses = found;
+            0
+        }
+        Count::Refused(reason) => reason.number(),
+    }
+}
+
+// or cycles.
+fn give_time(answer: Time, cycles: &mut u64) -> u64
+    ensures { λ r. ⌜ record { number = r; value = now (cycles .exit) } ≡ timeGiven answer (now (cycles .entry)) ⌝ }
+{
+    match answer {
+        Time::Cycles(found) => {
+            *cycles = found;
+            0
+        }
+        Time::Refused(reason) => reason.number(),
+    }
+}
+
+// The units above a budget.
+#[no_mangle]
+pub extern "C" fn estimate_above(table: &[u64], states: usize, budget: u64, units: &mut u64) -> u64
+    ensures { λ r. ⌜ record { number = r; value = now (units .exit) } ≡ amountGiven (aboveAnswer (take states (tableOf (now (table .entry)))) budget) (now (units .entry)) ⌝ }
+{
+    give_amount(above_in(table, states, budget), units)
 }
 
 // The smallest budget for an allowance.
@@ -78,13 +117,7 @@ pub extern "C" fn estimate_smallest_budget(
 ) -> u64
     ensures { λ r. ⌜ record { number = r; value = now (budget .exit) } ≡ countGiven (budgetAnswer (take states (tableOf (now (table .entry)))) allowance) (now (budget .entry)) ⌝ }
 {
-    match smallest_budget_in(table, states, allowance) {
-        Count::Misses(found) => {
-            *budget = found;
-            0
-        }
-        Count::Refused(reason) => reason.number(),
-    }
+    give_count(smallest_budget_in(table, states, allowance), budget)
 }
 
 // The units at each miss count.
@@ -97,13 +130,7 @@ pub extern "C" fn estimate_spread(
 ) -> u64
     ensures { λ r. ⌜ record { answer = record { number = r; value = now (largest .exit) }; room = now (counts .exit) } ≡ spreadGiven (spreadAnswer (take states (tableOf (now (table .entry)))) (now (counts .entry))) (now (largest .entry)) ⌝ }
 {
-    match spread_in(table, states, counts) {
-        Count::Misses(found) => {
-            *largest = found;
-            0
-        }
-        Count::Refused(reason) => reason.number(),
-    }
+    give_count(spread_in(table, states, counts), largest)
 }
 
 // The accesses of the longest path.
@@ -140,13 +167,7 @@ pub extern "C" fn estimate_above_cycles(
 ) -> u64
     ensures { λ r. ⌜ record { number = r; value = now (units .exit) } ≡ amountGiven (aboveCyclesAnswer (take states (tableOf (now (table .entry)))) core longest budget) (now (units .entry)) ⌝ }
 {
-    match above_cycles_in(table, states, core, longest, budget) {
-        Amount::Units(found) => {
-            *units = found.0;
-            0
-        }
-        Amount::Refused(reason) => reason.number(),
-    }
+    give_amount(above_cycles_in(table, states, core, longest, budget), units)
 }
 
 // The smallest cycle budget for an allowance.
@@ -161,13 +182,66 @@ pub extern "C" fn estimate_smallest_cycles(
 ) -> u64
     ensures { λ r. ⌜ record { number = r; value = now (cycles .exit) } ≡ timeGiven (cycleBudgetAnswer (take states (tableOf (now (table .entry)))) core longest allowance) (now (cycles .entry)) ⌝ }
 {
-    match smallest_cycles_in(table, states, core, longest, allowance) {
-        Time::Cycles(found) => {
-            *cycles = found;
-            0
-        }
-        Time::Refused(reason) => reason.number(),
-    }
+    give_time(
+        smallest_cycles_in(table, states, core, longest, allowance),
+        cycles,
+    )
+}
+
+// The same questions, put to a lent row of states: each is `give(ask(row, ..), ..)`. The units above a budget.
+#[no_mangle]
+pub extern "C" fn estimate_row_above(row: &[State], budget: u64, units: &mut u64) -> u64
+    ensures { λ r. ⌜ record { number = r; value = now (units .exit) } ≡ amountGiven (aboveAnswer (now (row .entry)) budget) (now (units .entry)) ⌝ }
+{
+    give_amount(above(row, budget), units)
+}
+
+// The smallest budget for an allowance.
+#[no_mangle]
+pub extern "C" fn estimate_row_smallest_budget(
+    row: &[State],
+    allowance: u64,
+    budget: &mut u64,
+) -> u64
+    ensures { λ r. ⌜ record { number = r; value = now (budget .exit) } ≡ countGiven (budgetAnswer (now (row .entry)) allowance) (now (budget .entry)) ⌝ }
+{
+    give_count(smallest_budget(row, allowance), budget)
+}
+
+// The units at each miss count.
+#[no_mangle]
+pub extern "C" fn estimate_row_spread(row: &[State], counts: &mut [u64], largest: &mut u64) -> u64
+    ensures { λ r. ⌜ record { answer = record { number = r; value = now (largest .exit) }; room = now (counts .exit) } ≡ spreadGiven (spreadAnswer (now (row .entry)) (now (counts .entry))) (now (largest .entry)) ⌝ }
+{
+    give_count(spread(row, counts), largest)
+}
+
+// The units above a cycle budget.
+#[no_mangle]
+pub extern "C" fn estimate_row_above_cycles(
+    row: &[State],
+    core: usize,
+    longest: u64,
+    budget: u64,
+    units: &mut u64,
+) -> u64
+    ensures { λ r. ⌜ record { number = r; value = now (units .exit) } ≡ amountGiven (aboveCyclesAnswer (now (row .entry)) core longest budget) (now (units .entry)) ⌝ }
+{
+    give_amount(above_cycles(row, core, longest, budget), units)
+}
+
+// The smallest cycle budget for an allowance.
+#[no_mangle]
+pub extern "C" fn estimate_row_smallest_cycles(
+    row: &[State],
+    core: usize,
+    longest: u64,
+    allowance: u64,
+    cycles: &mut u64,
+) -> u64
+    ensures { λ r. ⌜ record { number = r; value = now (cycles .exit) } ≡ timeGiven (cycleBudgetAnswer (now (row .entry)) core longest allowance) (now (cycles .entry)) ⌝ }
+{
+    give_time(smallest_cycles(row, core, longest, allowance), cycles)
 }
 
 // How many bytes were written: 0 where a room is too short.

@@ -2,7 +2,7 @@
 -- answer E is an enum; a `usize` is passed as a `u64` is. All but the walk is said for n numbers. The walk is written out for one number and for three:
 -- only the positions of the locals differ.
 --     slots, spells, tells, stays, goes    n parameters that are numbers: what a signature and a walk ask of them
---     Form                 a question: its answer, of the states and the numbers, and the name of `ask`
+--     Form                 a question: its answer, of the states and the numbers
 --     Ask, Question        the signatures of `ask` and of the question
 --     Asked, Answered      what they claim: the answer of the states that are held, and the answer of the row
 --     function             the question's MIR, as lowering writes it
@@ -56,7 +56,7 @@ use Rattle.rows.proofs.Walk.{Claim, claims, Keeps, Alive, asks, leaves,
 
 -- in a signature of k lifetimes
 module _ (k : ℕ) where
-  abbrev slots : ℕ → List (Slot k)
+  abbrev pub slots : ℕ → List (Slot k)
   slots zero = []
   slots (suc n) = plain (λ _. u64) ∷ slots n
 
@@ -76,15 +76,15 @@ module _ (k : ℕ) where
   goes 𝓤 H A W zero = tt
   goes 𝓤 H A W (suc n) = (goes-none 𝓤 H A W k (λ _. u64) yes (λ κs x f. refl), goes 𝓤 H A W n)
 
-abbrev Numbers : ℕ → Type 0
+abbrev pub Numbers : ℕ → Type 0
 Numbers n = Denots (typesAt (slots 0 n) tt)
 
-abbrev numbers : (κs : Lfts 1) (n : ℕ) → Denots (typesAt (slots 1 n) κs) → Numbers n
+abbrev pub numbers : (κs : Lfts 1) (n : ℕ) → Denots (typesAt (slots 1 n) κs) → Numbers n
 numbers κs zero a = tt
 numbers κs (suc n) a = (a .0, numbers κs n (a .1))
 
 -- the operands that read them, from local i on
-abbrev operands : ℕ → ℕ → List Operand
+abbrev pub operands : ℕ → ℕ → List Operand
 operands zero i = []
 operands (suc n) i = copy (place i []) ∷ operands n (suc i)
 
@@ -94,10 +94,9 @@ pub record Form : Type 2 where
   pub E : Declared
   pub n : ℕ
   pub answer : List State → Numbers n → E .D
-  pub #ask : Name
 
 -- the types of what a function is passed
-abbrev Params : (T : Ended) → Lfts (T .signature .lifetimes) → List RattleType
+abbrev pub Params : (T : Ended) → Lfts (T .signature .lifetimes) → List RattleType
 Params T κs = typesAt (T .signature .params) κs
 
 module _ (f : Form) where
@@ -107,7 +106,7 @@ module _ (f : Form) where
     kept = (yes, all yes (slots 0 (f .n)));
   }
 
-  abbrev Question : Ended
+  abbrev pub Question : Ended
   Question = record {
     signature = record { lifetimes = 1; outlives = []; params = SliceRefOf (0 ∷ []) tt (plain (λ _. StateT)) (λ _. tt) ∷ slots 1 (f .n); result = plain (λ _. row (f .E)) };
     kept = (yes, all yes (slots 1 (f .n)));
@@ -116,25 +115,25 @@ module _ (f : Form) where
   abbrev Asked : Claim Ask
   Asked κs a r e = r ≡ f .answer (statesOf (a .0)) (a .1)
 
-  abbrev Answered : Claim Question
+  abbrev pub Answered : Claim Question
   Answered κs a r e = r ≡ f .answer (now (a .0)) (numbers κs (f .n) (a .1))
 
   abbrev stayed : Stays (Question .signature .params) (Question .kept)
   stayed = (stay-none-slice (0 ∷ []) tt (plain (λ _. StateT)) yes, stays 1 (f .n))
 
-  abbrev function : Fn
-  function = record {
+  abbrev function : Name → Fn
+  function #ask = record {
     lifetimes = 1;
     outlives = [];
     params = f .n + 1;
     locals = local (layout (shape (f .E))) valueLocal ∷ local slice valueLocal ∷ (replicate (f .n) (local (tyInt w64) valueLocal) ++ (local held-mir valueLocal ∷ []));
     body =
         seq (call #copy (copy (place 1 []) ∷ []) (place (f .n + 2) []))
-        (seq (call (f .#ask) (copy (place (f .n + 2) []) ∷ operands (f .n) 2) (place 0 [])) return);
+        (seq (call #ask (copy (place (f .n + 2) []) ∷ operands (f .n) 2) (place 0 [])) return);
   }
 
   module _ {M : Type 1} (𝓤 : URA M) (H : Heap 𝓤) (A : Atoms 𝓤) (κs : Lfts 1) (qs : Shares 1) (a : Args (Question .signature) κs) where
-    abbrev to-question : Bound 𝓤 H A (Question .signature)
+    abbrev pub to-question : Bound 𝓤 H A (Question .signature)
     to-question = (κs, qs, tt, a, valss (Params Question κs) (slice-vals, spells 1 κs (f .n)) a)
 
     abbrev to-ask : Held → Val → Bound 𝓤 H A (Ask .signature)
@@ -142,31 +141,32 @@ module _ (f : Form) where
         let ps : Numbers (f .n) = numbers κs (f .n) (a .1) in
         (tt, tt, tt, (h, ps), (u ∷ [], valss (typesAt (slots 0 (f .n)) tt) (spells 0 tt (f .n)) ps))
 
-  abbrev Walk : Type 2
-  Walk = (M : Type 1) (𝓤 : URA M) (H : Heap 𝓤) (A : Atoms 𝓤) → Given 𝓤 H A
-      → (𝓣 : Tables 𝓤 H) → Keeps 𝓤 H A copying.ended Copied (𝓣 .C #copy) → Keeps 𝓤 H A Ask Asked (𝓣 .C (f .#ask))
+  abbrev Walk : Name → Type 2
+  Walk #ask = (M : Type 1) (𝓤 : URA M) (H : Heap 𝓤) (A : Atoms 𝓤) → Given 𝓤 H A
+      → (𝓣 : Tables 𝓤 H) → Keeps 𝓤 H A copying.ended Copied (𝓣 .C #copy) → Keeps 𝓤 H A Ask Asked (𝓣 .C #ask)
       → (κs : Lfts 1) (qs : Shares 1) (a : Args (Question .signature) κs)
       → let x : Bound 𝓤 H A (Question .signature) = to-question 𝓤 H A κs qs a in
       Are (Params Question κs) (Ises (Params Question κs)) a (x .4)
       → ent 𝓤 (onEntry 𝓤 H A (Question .signature) κs qs a (x .4))
-      (WpFn 𝓤 H (𝓣 .C) (𝓣 .Λ) function (flat (Params Question κs) (x .4)) (walkOf 𝓤 H A Question stayed (claims 𝓤 Question Answered) .post (x, tt)))
+      (WpFn 𝓤 H (𝓣 .C) (𝓣 .Λ) (function #ask) (flat (Params Question κs) (x .4)) (walkOf 𝓤 H A Question stayed (claims 𝓤 Question Answered) .post (x, tt)))
 
 pub record Walked : Type 3 where
   pub form : Form
-  pub walk : Walk form
+  pub #ask : Name
+  pub walk : Walk form #ask
 
 -- ---- the walks
 
 module _ (E : Declared) (L : enum-laws.Laws E) (few : Few (shape E)) where
   module _ (answer : List State → ℕ → E .D) (same : (ys : List State) (p : ℕ) → answer (statesOf (copied ys)) p ≡ answer ys p) (#ask : Name) where
     abbrev one : Form
-    one = record { E = E; n = 1; answer = λ ys ps. answer ys (ps .0); #ask = #ask }
+    one = record { E = E; n = 1; answer = λ ys ps. answer ys (ps .0) }
 
-    pub walk-one : Walk one
+    pub walk-one : Walk one #ask
     walk-one M 𝓤 H A W 𝓣 known-copy known-ask κs qs a are =
         let x : Bound 𝓤 H A (Question one .signature) = to-question one 𝓤 H A κs qs a in
         let y : Held → Val → Bound 𝓤 H A (Ask one .signature) = to-ask one 𝓤 H A κs qs a in
-        qed W ((‵ (flft (κs .0) (qs .0)) ⊛ ‵ ftrue) ∷ ‵ (owns (Params (Question one) κs) a (x .4)) ∷ []) ∵ enter ! (𝓣 .C) (𝓣 .Λ) (function one) _ _ $
+        qed W ((‵ (flft (κs .0) (qs .0)) ⊛ ‵ ftrue) ∷ ‵ (owns (Params (Question one) κs) a (x .4)) ∷ []) ∵ enter ! (𝓣 .C) (𝓣 .Λ) (function one #ask) _ _ $
         alloc1 ! (λ l₀. alloc1 ! (λ l₁. alloc1 ! (λ l₂. alloc1 ! (λ l₃. alloc0 ! $ params1 ! $
         pass1 ! (init ! 4 refl (tt, (tt, (record { fits = are .0 .0 .1 .0 }, tt)))) $ pass1 ! (init ! 2 refl (tt, record { fits = are .1 .0 .1 })) $ pass0 ! $
         -- [_3; …; _2; …; _1; …; _0; …; the token; what the parameters own]
@@ -187,18 +187,18 @@ module _ (E : Declared) (L : enum-laws.Laws E) (few : Few (shape E)) where
         (answered ∙ ap (λ (h : Held). one .answer (statesOf h) (a .1)) said ∙ same (a .0 .now) (a .1 .0))))))))
 
     abbrev pub of-one : Walked
-    of-one = record { form = one; walk = walk-one }
+    of-one = record { form = one; #ask = #ask; walk = walk-one }
 
   module _ (answer : List State → ℕ → ℕ → ℕ → E .D) (same : (ys : List State) (k l p : ℕ) → answer (statesOf (copied ys)) k l p ≡ answer ys k l p) (#ask : Name) where
     abbrev three : Form
-    three = record { E = E; n = 3; answer = λ ys ps. answer ys (ps .0) (ps .1 .0) (ps .1 .1 .0); #ask = #ask }
+    three = record { E = E; n = 3; answer = λ ys ps. answer ys (ps .0) (ps .1 .0) (ps .1 .1 .0) }
 
-    pub walk-three : Walk three
+    pub walk-three : Walk three #ask
     walk-three M 𝓤 H A W 𝓣 known-copy known-ask κs qs a are =
         let x : Bound 𝓤 H A (Question three .signature) = to-question three 𝓤 H A κs qs a in
         let y : Held → Val → Bound 𝓤 H A (Ask three .signature) = to-ask three 𝓤 H A κs qs a in
         let made : Makes 𝓤 H A u64 (Is u64) = uint-makes 𝓤 H A W w64 in
-        qed W ((‵ (flft (κs .0) (qs .0)) ⊛ ‵ ftrue) ∷ ‵ (owns (Params (Question three) κs) a (x .4)) ∷ []) ∵ enter ! (𝓣 .C) (𝓣 .Λ) (function three) _ _ $
+        qed W ((‵ (flft (κs .0) (qs .0)) ⊛ ‵ ftrue) ∷ ‵ (owns (Params (Question three) κs) a (x .4)) ∷ []) ∵ enter ! (𝓣 .C) (𝓣 .Λ) (function three #ask) _ _ $
         alloc1 ! (λ l₀. alloc1 ! (λ l₁. alloc1 ! (λ l₂. alloc1 ! (λ l₃. alloc1 ! (λ l₄. alloc1 ! (λ l₅. alloc0 ! $ params1 ! $
         pass1 ! (init ! 8 refl (tt, (tt, (record { fits = are .0 .0 .1 .0 }, tt)))) $ pass1 ! (init ! 6 refl (tt, record { fits = are .1 .0 .1 })) $
         pass1 ! (init ! 4 refl (tt, record { fits = are .1 .1 .0 .1 })) $ pass1 ! (init ! 2 refl (tt, record { fits = are .1 .1 .1 .0 .1 })) $ pass0 ! $
@@ -222,7 +222,7 @@ module _ (E : Declared) (L : enum-laws.Laws E) (few : Few (shape E)) where
         (answered ∙ ap (λ (h : Held). three .answer (statesOf h) (a .1)) said ∙ same (a .0 .now) (a .1 .0) (a .1 .1 .0) (a .1 .1 .1 .0))))))))))
 
     abbrev pub of-three : Walked
-    of-three = record { form = three; walk = walk-three }
+    of-three = record { form = three; #ask = #ask; walk = walk-three }
 
 -- ---- the theorem
 
@@ -230,15 +230,15 @@ module _ (w : Walked) {M : Type 1} (𝓤 : URA M) (H : Heap 𝓤) (𝓜 : Model 
   abbrev f : Form
   f = w .form
 
-  pub question : Closed 𝓤 H (tables 𝓤 H 𝓜 𝓡 γ .C) (tables 𝓤 H 𝓜 𝓡 γ .Λ) #question (function f) → γ #copy ≡ copy-routine
-      → (ask-routine : Routine) → γ (f .#ask) ≡ ask-routine → Keeps 𝓤 H (𝓖 .A) (Ask f) (Asked f) (𝓡 .run ask-routine)
+  pub question : Closed 𝓤 H (tables 𝓤 H 𝓜 𝓡 γ .C) (tables 𝓤 H 𝓜 𝓡 γ .Λ) #question (function f (w .#ask)) → γ #copy ≡ copy-routine
+      → (ask-routine : Routine) → γ (w .#ask) ≡ ask-routine → Keeps 𝓤 H (𝓖 .A) (Ask f) (Asked f) (𝓡 .run ask-routine)
       → Keeps 𝓤 H (𝓖 .A) (Question f) (Answered f) (𝓡 .run (γ #question))
   question closed calls-copy ask-routine calls-ask met =
       let A : Atoms 𝓤 = 𝓖 .A in
       let W : Given 𝓤 H A = givenOf 𝓤 H 𝓜 𝓖 in
-      proves 𝓤 H 𝓜 𝓖 𝓡 γ (Question f) (Answered f) #question (function f) (stayed f) (λ κs. (slice-vals, spells 1 κs (f .n))) closed
+      proves 𝓤 H 𝓜 𝓖 𝓡 γ (Question f) (Answered f) #question (function f (w .#ask)) (stayed f) (λ κs. (slice-vals, spells 1 κs (f .n))) closed
       (goes-none-slice 𝓤 H A W 1 (0 ∷ []) tt (plain (λ _. StateT)) yes, goes 1 𝓤 H A W (f .n))
       (λ κs. (shr-slice-tells (named 0) (κs .0) StateT, tells 1 κs (f .n)))
       (λ κs qs bounds. w .walk M 𝓤 H A W (within 𝓤 H 𝓜 𝓡 γ)
       (known 𝓤 H 𝓜 𝓖 𝓡 γ copying.ended Copied #copy copy-routine calls-copy (copy-thm.met 𝓤 H 𝓜 𝓖 𝓡))
-      (known 𝓤 H 𝓜 𝓖 𝓡 γ (Ask f) (Asked f) (f .#ask) ask-routine calls-ask met) κs qs)
+      (known 𝓤 H 𝓜 𝓖 𝓡 γ (Ask f) (Asked f) (w .#ask) ask-routine calls-ask met) κs qs)

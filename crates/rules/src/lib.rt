@@ -6,6 +6,7 @@ ghost use Rattle.rules.specs.Ordered.{byNumber, thenBy, isBefore};
 ghost use Rattle.rules.specs.Cycles.{coreAt};
 
 // A probability: whole units of 2^-48.
+#[repr(C)]
 pub struct Units(pub u64);
 
 // A number of units divided by the ways: each way's part, rounded down, and what is left over.
@@ -51,6 +52,7 @@ impl Units {
 }
 
 // A state of a table: the contents mask (bit i: the tracked block at place i is surely held), a miss count, and units.
+#[repr(C)]
 pub struct State {
     pub mask: u64,
     pub misses: u64,

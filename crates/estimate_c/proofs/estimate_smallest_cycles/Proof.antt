@@ -1,16 +1,12 @@
 -- `estimate_smallest_cycles` gives what `smallest_cycles_in` answers: 0 and the cycles, or the number of the refusal.
-use mathlib.Core.Path.{sym, ap, _∙_}
-use denote.Ref.{now}
 use Rattle.estimate_c.specs.Given.{timeGiven}
+use Rattle.estimate_c.proofs.Given.{value-given}
 use borrow.Author.Needs.{needs}
 use Rattle.estimate_c.proofs.estimate_smallest_cycles.Statement.{statement}
 use Rattle.estimate_c.proofs.estimate_smallest_cycles.Tie as tie
 
 returns : tie.Need-returns
-returns c = ap (λ a. timeGiven a (now (c .before .before .before .before .before .args .cycles))) (sym (c .before .found .given .1) ∙ c .before .before .before .smallest-cycles-in .ensures)
-
-returns-2 : tie.Need-returns-2
-returns-2 c = rw (c .number .ensures) (ap (λ a. timeGiven a (now (c .before .before .before .before .before .before .args .cycles))) (sym (c .before .before .reason .given .1) ∙ c .before .before .before .before .smallest-cycles-in .ensures))
+returns c = value-given timeGiven (c .give-time .ensures) (c .before .before .smallest-cycles-in .ensures)
 
 pub estimate-smallest-cycles-spec : {M : Type 1} → statement M
-estimate-smallest-cycles-spec = tie.close (tie.spec (λ c κs. search needs) (λ c. search needs) (λ c. search needs) (λ c κs. search needs) returns returns-2)
+estimate-smallest-cycles-spec = tie.close (tie.spec (λ c κs. search needs) (λ c κs. search needs) returns)

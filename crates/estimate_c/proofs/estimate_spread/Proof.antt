@@ -6,20 +6,7 @@ use Rattle.estimate_c.proofs.estimate_spread.Statement.{statement}
 use Rattle.estimate_c.proofs.estimate_spread.Tie as tie
 
 returns : tie.Need-returns
-returns c = spread-given _ (now (c .before .before .before .before .before .before .before .before .before .args .largest)) (c .before .found .given .1) (c .before .before .before .before .before .spread-in .ensures)
-
-returns-2 : tie.Need-returns-2
-returns-2 c = rw (c .number .ensures) (spread-given _ (now (c .before .before .before .before .before .before .before .before .before .before .args .largest)) (c .before .before .reason .given .1) (c .before .before .before .before .before .before .spread-in .ensures))
+returns c = spread-given (now (c .before .before .before .before .before .before .before .before .args .largest)) (c .give-count .ensures) (c .before .before .before .before .spread-in .ensures)
 
 pub estimate-spread-spec : {M : Type 1} → statement M
-estimate-spread-spec =
-    tie.close
-    (tie.spec
-    (λ c κs. search needs)
-    (λ c. search needs)
-    (λ c. search needs)
-    (λ c κs. search needs)
-    (λ c. search needs)
-    returns
-    (λ c. search needs)
-    returns-2)
+estimate-spread-spec = tie.close (tie.spec (λ c κs. search needs) (λ c κs. search needs) (λ c. search needs) returns)
