@@ -23,10 +23,10 @@ static const struct core cores[PLAIN_CORES] = {
 
 /* ---- The longest path ---- */
 
-/* The first of the refusals 1 to 5 that applies, or 0: those are before 6, which is what the graph call gives in no room at all. */
+/* The first of the refusals 1, 10 and 2 to 5 that applies, or 0: those come before 6, which the graph call gives in no room at all. */
 static int graph_refusal(const struct plain_input *graph)
 {
-    int number = plain_graph(graph->ways, graph->limit, graph->tracked, graph->tracked_count, graph->runs, graph->nodes,
+    int number = plain_graph(graph->sets, graph->ways, graph->limit, graph->tracked, graph->tracked_count, graph->runs, graph->nodes,
                              graph->accesses, graph->access_count, graph->edges, graph->edge_numbers, 0, 0, NULL, NULL, NULL);
     return number == 6 ? 0 : number;
 }
@@ -147,7 +147,7 @@ static int work_text(const unsigned char *text, size_t bytes, struct finished *f
     int number = plain_longest_path(&graph, &finished->longest);
     if (number != 0)
         return number;
-    plain_graph(graph.ways, graph.limit, graph.tracked, graph.tracked_count, graph.runs, graph.nodes,
+    plain_graph(graph.sets, graph.ways, graph.limit, graph.tracked, graph.tracked_count, graph.runs, graph.nodes,
                 graph.accesses, graph.access_count, graph.edges, graph.edge_numbers,
                 RESULT_WORDS, WORK_WORDS, finished->row, &finished->states, &finished->aside);
     return plain_spread(finished->row, finished->states, finished->counts, MOST_ACCESSES + 1, &finished->largest);

@@ -11,7 +11,8 @@
 /* Room that is long enough for every output of plain_cycles. */
 #define PLAIN_CYCLES_OUTPUT_BYTES 3145728
 
-/* The most accesses of a path from the first node to the last. Gives 0 or the first of the refusals 1 to 5 that applies. */
+/* The most accesses of a path from the first node to the last. Gives 0 or the first of the refusals 1, 10 and 2 to 5 that
+ * applies. */
 int plain_longest_path(const struct plain_input *graph, uint64_t *longest);
 
 /* What a miss count stands for on a core in service, where the longest path has so many accesses. */

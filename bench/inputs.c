@@ -58,10 +58,11 @@ static void shuffle(struct generator *from, uint32_t *list, size_t count)
 
 /* ---- Graph inputs ---- */
 
-/* Different block numbers: small ones, around the largest, or spread over all 32 bits. */
+/* Different block numbers: small ones, around the largest, or spread over all 32 bits; in all sets, in some or in one. */
 static void make_pool(struct generator *from, uint32_t *pool, size_t count)
 {
     uint32_t step = one_in(from, 2) ? 1 : (uint32_t)draw(from) | 1;
+    step <<= one_in(from, 2) ? 0 : draw_below(from, 5);
     uint32_t first = one_in(from, 2) ? 0 : one_in(from, 2) ? 4294967295u : (uint32_t)draw(from);
     for (size_t i = 0; i < count; i++)
         pool[i] = first + step * (uint32_t)i;
@@ -148,6 +149,7 @@ static uint32_t draw_access_count(struct generator *from, uint32_t nodes)
 
 void make_random_input(struct generator *from, struct input *input)
 {
+    input->sets = one_in(from, 2) ? 1 : 2u << draw_below(from, 4);
     static const uint32_t most_ways[4] = {2, 4, 8, 16}, most_limit[4] = {3, 8, 24, 64};
     static const uint32_t most_nodes[8] = {1, 1, 3, 4, 6, 10, 20, 64};
     input->ways = draw_between(from, 1, most_ways[draw_below(from, 4)]);
@@ -187,11 +189,14 @@ void make_border_input(struct generator *from, struct input *input)
 static void damage_bounds(struct generator *from, struct input *input)
 {
     static const uint32_t wrong_ways[4] = {0, 17, 4294967295u, 256}, wrong_limit[4] = {0, 65, 4294967295u, 256};
-    bool ways = one_in(from, 2);
-    if (ways || one_in(from, 4))
+    static const uint32_t wrong_sets[8] = {0, 3, 6, 12, 15, 17, 32, 2147483648u};
+    uint32_t which = draw_below(from, 3);
+    if (which == 0 || one_in(from, 4))
         input->ways = wrong_ways[draw_below(from, 4)];
-    if (!ways || one_in(from, 4))
+    if (which == 1 || one_in(from, 4))
         input->limit = wrong_limit[draw_below(from, 4)];
+    if (which == 2 || one_in(from, 4))
+        input->sets = wrong_sets[draw_below(from, 8)];
 }
 
 /* A tracked block twice, or 17 different ones; sometimes 16, which is legal. */
@@ -780,6 +785,7 @@ static void order_accesses(struct generator *from, struct input *input, enum ord
 static void make_straight_run(struct input *input, enum order order, size_t accesses, uint32_t ways, uint32_t limit)
 {
     struct generator from = generator_of(2, order);
+    input->sets = 1;
     input->ways = ways;
     input->limit = limit;
     input->tracked_count = 16;
@@ -792,6 +798,17 @@ static void make_straight_run(struct input *input, enum order order, size_t acce
     input->edge_numbers = 0;
     input->result_words = ENOUGH_RESULT;
     input->work_words = ENOUGH_WORK;
+}
+
+/* The random run in so many sets of four ways, over which the tracked blocks are spread evenly. */
+static void make_run_in_sets(struct input *input, uint32_t sets)
+{
+    make_straight_run(input, RANDOM, 4096, 4, 64);
+    input->sets = sets;
+    for (size_t i = 0; i < input->access_count; i++)
+        input->accesses[i] = 1000 + (input->accesses[i] - 1000) / 64;
+    for (uint32_t i = 0; i < 16; i++)
+        input->tracked[i] = 1000 + i;
 }
 
 /* 64 nodes of 64 accesses; edges from every node to so many that follow it. */
@@ -809,7 +826,7 @@ static void make_wide_graph(struct input *input, uint32_t reach)
 const char *make_heavy_input(size_t which, struct input *input)
 {
     static const char *const names[HEAVY_INPUTS + GROWTH_INPUTS] = {
-        "shuffled", "random", "cyclic", "random-8-ways", "random-limit-8", "graph-two-edges", "graph-all-edges",
+        "shuffled", "random", "cyclic", "random-8-ways", "random-limit-8", "graph-two-edges", "graph-all-edges", "random-4-sets",
         "random-512", "random-1024", "random-2048", "random-4096",
     };
     if (which >= HEAVY_INPUTS + GROWTH_INPUTS)
@@ -820,8 +837,10 @@ const char *make_heavy_input(size_t which, struct input *input)
         make_straight_run(input, RANDOM, 4096, 8, 64);
     else if (which == 4)
         make_straight_run(input, RANDOM, 4096, 16, 8);
-    else if (which < HEAVY_INPUTS)
+    else if (which < 7)
         make_wide_graph(input, which == 5 ? 2 : 63);
+    else if (which == 7)
+        make_run_in_sets(input, 4);
     else
         make_straight_run(input, RANDOM, (size_t)512 << (which - HEAVY_INPUTS), 16, 64);
     return names[which];

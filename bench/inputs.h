@@ -29,7 +29,7 @@ struct generator {
 
 /* Everything the graph call takes; the rooms are how many words are lent. */
 struct input {
-    uint32_t ways, limit;
+    uint32_t sets, ways, limit;
     size_t tracked_count, nodes, access_count, edge_numbers, result_words, work_words;
     uint32_t tracked[INPUT_TRACKED_ROOM];
     uint32_t runs[INPUT_NODES_ROOM];
@@ -79,7 +79,7 @@ void damage_text(struct generator *from, struct text *text);
 
 /* The heavy inputs by number from 0; those from HEAVY_INPUTS on are for growth, with rising numbers of accesses. Gives the name, or NULL
  * past the last. */
-#define HEAVY_INPUTS 7
+#define HEAVY_INPUTS 8
 #define GROWTH_INPUTS 4
 const char *make_heavy_input(size_t which, struct input *input);
 

@@ -1,4 +1,4 @@
-/* Document 01 in plain C. The section or clause that a function follows stands above it. */
+/* Document 01 in plain C, with request 1/13 of document 02. The section or clause that a function follows stands above it. */
 #include "plain.h"
 
 #include <inttypes.h>
@@ -7,6 +7,7 @@
 
 #define WHOLE PLAIN_WHOLE
 #define MOST_WAYS 16
+#define MOST_SETS 16
 #define MOST_STATES 64
 #define MOST_TRACKED 16
 #define MOST_NODES 64
@@ -181,41 +182,59 @@ static uint64_t look_up(const struct plain_input *graph, uint32_t block)
     return 0;
 }
 
-/* "Access to block b, from a state holding set C, with m misses and w units". The bit of an untracked block is 0. */
-static void step_from(struct table *next, const struct plain_state *from, uint64_t bit, uint32_t ways, uint64_t *aside)
+/* What an access is aimed at: the bit of its block, or 0, and the bits of the tracked blocks of its set, which a miss can evict. */
+struct target {
+    uint64_t bit, mates;
+};
+
+/* 1/13: "a block belongs to the set given by its number modulo the set count" */
+static void find_mates(const struct plain_input *graph, uint64_t mates[MOST_SETS])
 {
-    if ((from->mask & bit) != 0) {
+    memset(mates, 0, MOST_SETS * sizeof *mates);
+    for (size_t i = 0; i < graph->tracked_count; i++)
+        mates[graph->tracked[i] % graph->sets] |= (uint64_t)1 << i;
+}
+
+/* "Access to block b, from a state holding set C, with m misses and w units". 1/13: "q units go to the loss of each held block of that set,
+ * and (N - held blocks of that set)xq to losing none. The remainder goes where it did." The bit of an untracked block is 0. */
+static void step_from(struct table *next, const struct plain_state *from, struct target to, uint32_t ways, uint64_t *aside)
+{
+    if ((from->mask & to.bit) != 0) {
         put(next, from->mask, from->misses, from->units);
         return;
     }
     uint64_t share = from->units / ways;
     uint64_t rest = from->units - share * ways;
     uint64_t misses = from->misses + 1;
+    uint64_t at_risk = from->mask & to.mates;
     for (unsigned i = 0; i < MOST_TRACKED; i++) {
         uint64_t evicted = (uint64_t)1 << i;
-        if ((from->mask & evicted) != 0)
-            put(next, (from->mask & ~evicted) | bit, misses, share);
+        if ((at_risk & evicted) != 0)
+            put(next, (from->mask & ~evicted) | to.bit, misses, share);
     }
-    put(next, from->mask | bit, misses, (ways - block_count(from->mask)) * share);
-    put(next, bit, misses, rest);
+    put(next, from->mask | to.bit, misses, (ways - block_count(at_risk)) * share);
+    put(next, to.bit, misses, rest);
     set_aside(aside, rest);
 }
 
 /* One access from a whole table, and the fold after it. */
-static void step(const struct table *table, struct table *next, uint64_t bit, const struct plain_input *graph, uint64_t *aside)
+static void step(const struct table *table, struct table *next, struct target to, const struct plain_input *graph, uint64_t *aside)
 {
     next->count = 0;
     for (size_t i = 0; i < table->count; i++)
-        step_from(next, &table->states[i], bit, graph->ways, aside);
+        step_from(next, &table->states[i], to, graph->ways, aside);
     fold(next, graph->limit, aside);
 }
 
 /* Section 2: "Each node's run is a stretch of the one access list". */
-static void work_run(struct table *table, const struct plain_input *graph, size_t first, size_t length, uint64_t *aside)
+static void work_run(struct table *table, const struct plain_input *graph, const uint64_t *mates, size_t first, size_t length,
+                     uint64_t *aside)
 {
     struct table next;
     for (size_t i = first; i < first + length; i++) {
-        step(table, &next, look_up(graph, graph->accesses[i]), graph, aside);
+        uint32_t block = graph->accesses[i];
+        struct target to = {look_up(graph, block), mates[block % graph->sets]};
+        step(table, &next, to, graph, aside);
         copy_states(table, next.states, next.count);
     }
 }
@@ -262,13 +281,15 @@ static size_t enter_node(struct table *table, const struct plain_input *graph, c
 static void work_nodes(const struct plain_input *graph, struct table *table, uint64_t *aside)
 {
     struct node_table done[MOST_NODES];
+    uint64_t mates[MOST_SETS];
     size_t edge = 0, first = 0;
+    find_mates(graph, mates);
     for (size_t node = 0; node < graph->nodes; node++) {
         if (node == 0)
             start_table(table);
         else
             edge = enter_node(table, graph, done, node, edge, aside);
-        work_run(table, graph, first, graph->runs[node], aside);
+        work_run(table, graph, mates, first, graph->runs[node], aside);
         first += graph->runs[node];
         done[node].count = table->count;
         memcpy(done[node].states, table->states, table->count * sizeof *table->states);
@@ -341,11 +362,19 @@ static bool nodes_accepted(const struct plain_input *graph)
     return runs_accepted(graph) && graph->edge_numbers % 2 == 0 && edges_in_order(graph) && nodes_connected(graph);
 }
 
-/* "Checked in this order; the first that applies is given." */
+/* 1/13: "1, 2, 4, 8 or 16 sets" */
+static bool sets_accepted(uint32_t sets)
+{
+    return sets == 1 || sets == 2 || sets == 4 || sets == 8 || sets == 16;
+}
+
+/* "Checked in this order; the first that applies is given." 1/13: "10, another set count, directly after 1" */
 static int refusal(const struct plain_input *graph, size_t result_words, size_t work_words)
 {
     if (graph->ways < 1 || graph->ways > MOST_WAYS)
         return 1;
+    if (!sets_accepted(graph->sets))
+        return 10;
     if (graph->limit < 1 || graph->limit > MOST_STATES)
         return 2;
     if (!tracked_accepted(graph))
@@ -359,7 +388,7 @@ static int refusal(const struct plain_input *graph, size_t result_words, size_t 
     return 0;
 }
 
-int plain_graph(uint32_t ways, uint32_t limit,
+int plain_graph(uint32_t sets, uint32_t ways, uint32_t limit,
                 const uint32_t *tracked, size_t tracked_count,
                 const uint32_t *runs, size_t nodes,
                 const uint32_t *accesses, size_t access_count,
@@ -368,7 +397,7 @@ int plain_graph(uint32_t ways, uint32_t limit,
                 struct plain_state *table, size_t *states, uint64_t *aside)
 {
     const struct plain_input graph = {
-        ways, limit, tracked, tracked_count, runs, nodes, accesses, access_count, edges, edge_numbers,
+        sets, ways, limit, tracked, tracked_count, runs, nodes, accesses, access_count, edges, edge_numbers,
     };
     struct table finished;
     int number = refusal(&graph, result_words, work_words);
@@ -539,9 +568,10 @@ static bool take_list(struct plain_numbers *numbers, size_t each, const uint32_t
 }
 
 /* "ways, K, tracked count, tracked blocks, node count, run lengths, access count, accesses, edge count, edges. Anything else, a missing
- * number or one left over gives 9." */
+ * number or one left over gives 9." 1/13: "the curve program keeps one" set. */
 static bool take_graph(struct plain_numbers *numbers, struct plain_input *graph)
 {
+    graph->sets = 1;
     return take_number(numbers, &graph->ways)
         && take_number(numbers, &graph->limit)
         && take_list(numbers, 1, &graph->tracked, &graph->tracked_count)
@@ -600,7 +630,7 @@ size_t plain_curve(const unsigned char *text, size_t bytes, unsigned char *outpu
     uint64_t aside;
     if (!plain_read(text, bytes, &numbers, &graph))
         return write_refusal(output, 9);
-    int number = plain_graph(graph.ways, graph.limit, graph.tracked, graph.tracked_count, graph.runs, graph.nodes,
+    int number = plain_graph(graph.sets, graph.ways, graph.limit, graph.tracked, graph.tracked_count, graph.runs, graph.nodes,
                              graph.accesses, graph.access_count, graph.edges, graph.edge_numbers,
                              MOST_STATES * STATE_WORDS, WORKING_STATES * STATE_WORDS, row, &states, &aside);
     if (number != 0)

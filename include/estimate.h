@@ -29,7 +29,8 @@ extern "C" {
 /* Certainty: a unit is a chance of 2^-48. */
 #define ESTIMATE_WHOLE ((uint64_t)281474976710656)
 
-/* The largest that is accepted; the smallest are 1 way, a limit of 1 state and 1 node, and none of the others. */
+/* The largest that is accepted; the smallest are 1 set, 1 way, a limit of 1 state and 1 node, and none of the others. */
+#define ESTIMATE_MOST_SETS 16
 #define ESTIMATE_MOST_WAYS 16
 #define ESTIMATE_MOST_STATES 64
 #define ESTIMATE_MOST_TRACKED 16
@@ -67,13 +68,15 @@ enum estimate_refusal {
     ESTIMATE_ROW = 7,         /* the states are no table */
     ESTIMATE_SPREAD_ROOM = 8, /* spread room shorter than the largest misses + 1 */
     ESTIMATE_TEXT = 9,        /* malformed text: only in a curve's text, as `refused 9` */
+    ESTIMATE_SETS = 10,       /* a set count other than 1, 2, 4, 8, 16 */
     ESTIMATE_NO_CORE = 16     /* no such core */
 };
 
-/* The graph call: a cache of `ways` ways, at most `limit` states; the tracked blocks; the length of each node's run; all accesses, node after node; the
- * edges, from and to, two numbers each. Gives ESTIMATE_DONE, or the first of 1, 2, 3, 4, 5, 6 that applies. Done, `result` begins with the finished table
- * and is zero beyond it, `work` is zero, `*states` is how many states the table has and `*aside` how many units were set aside. Refused, nothing is written. */
-uint64_t estimate_graph(uint32_t ways, uint32_t limit,
+/* The graph call: a cache of `sets` sets of `ways` ways, in which a block belongs to the set given by its number modulo `sets`; at most `limit` states; the
+ * tracked blocks; the length of each node's run; all accesses, node after node; the edges, from and to, two numbers each. Gives ESTIMATE_DONE, or the first of
+ * 1, 10, 2, 3, 4, 5, 6 that applies. Done, `result` begins with the finished table and is zero beyond it, `work` is zero, `*states` is how many states the
+ * table has and `*aside` how many units were set aside. Refused, nothing is written. */
+uint64_t estimate_graph(uint32_t sets, uint32_t ways, uint32_t limit,
                         const uint32_t *tracked, size_t tracked_count,
                         const uint32_t *runs, size_t nodes,
                         const uint32_t *accesses, size_t access_count,
@@ -95,9 +98,9 @@ uint64_t estimate_smallest_budget(const uint64_t *table, size_t words, size_t st
  * ESTIMATE_SPREAD_ROOM, and writes nothing, if `counts` has fewer than the largest + 1. */
 uint64_t estimate_spread(const uint64_t *table, size_t words, size_t states, uint64_t *counts, size_t counts_room, uint64_t *largest);
 
-/* The accesses of the longest path from the first node to the last go to `*longest`. Gives ESTIMATE_DONE, or the first of 1, 2, 3, 4, 5 that applies, as the graph
- * call does; a refusal writes nothing. */
-uint64_t estimate_longest_path(uint32_t ways, uint32_t limit,
+/* The accesses of the longest path from the first node to the last go to `*longest`. Gives ESTIMATE_DONE, or the first of 1, 10, 2, 3, 4, 5 that applies, as the
+ * graph call does; a refusal writes nothing. */
+uint64_t estimate_longest_path(uint32_t sets, uint32_t ways, uint32_t limit,
                                const uint32_t *tracked, size_t tracked_count,
                                const uint32_t *runs, size_t nodes,
                                const uint32_t *accesses, size_t access_count,

@@ -16,7 +16,7 @@ build() {
     [ -e "$root/target/$file" ] || echo "proving and building $what: this takes some minutes" >&2
     said=$(cd "$root" && rt "$@" </dev/null 2>&1) || {
         printf '%s\n' "$said" >&2
-        exit 1
+        exit "$unbuilt"
     }
 }
 
@@ -57,3 +57,25 @@ compiler() {
 
 # the status of a command that could not build what it is to run: another one than that of a program which gives other answers than expected
 unbuilt=3
+
+# SOURCES..: the C program of these over the library is made; `program` says where it is
+over_library() {
+    local cc
+    cc=$(compiler) || return $unbuilt
+    (library) || return $unbuilt
+    program=$root/target/c/$(basename "$1" .c)
+    mkdir -p "$root/target/c"
+    "$cc" -O2 -Wall -Wextra -I"$root/include" "$@" "$archive" -static -o "$program" || return $unbuilt
+}
+
+# ARGUMENTS..: the C program that was made last is run with them
+run_program() { ${emulator:+"$emulator"} "$program" "$@"; }
+
+# STATUS: what a test that ended with it is said to have done
+fault_of() {
+    case $1 in
+    "$unbuilt") echo 'could not be built' ;;
+    126 | 127) echo 'could not be started' ;;
+    *) echo 'answers otherwise' ;;
+    esac
+}

@@ -1,48 +1,73 @@
-// The cache of document 01, section 1, written down by itself: up to four ways, each with a block's number, or 0 while empty.
+// The cache of document 01, section 1, with the sets of document 02, request 1/13, written down by itself: up to four sets of up to four
+// ways. A set has four places in a row, each with a block's number, or 0 while the way is empty.
 use crate::numbers::read;
 
-fn holds(cache: &[u32; 4], block: u32) -> bool {
-    if cache[0] == block {
+// Where the places of the block's set begin.
+fn base_of(sets: u32, block: u32) -> usize {
+    if sets == 0 {
+        return 0;
+    }
+    match block % sets {
+        0 => 0,
+        1 => 4,
+        2 => 8,
+        _ => 12,
+    }
+}
+
+// Whether `block` is in one of the four places from `base` on.
+fn holds(cache: &[u32; 16], base: usize, block: u32) -> bool {
+    if 12 < base {
+        return false;
+    }
+    if cache[base] == block {
         return true;
     }
-    if cache[1] == block {
+    if cache[base + 1] == block {
         return true;
     }
-    if cache[2] == block {
+    if cache[base + 2] == block {
         return true;
     }
-    cache[3] == block
+    cache[base + 3] == block
+}
+
+// The block is written to the way `drawn` of the set whose places begin at `base`.
+fn overwrite(cache: &mut [u32; 16], base: usize, drawn: u64, block: u32) {
+    if drawn < 4 {
+        if base < 13 {
+            cache[base + drawn as usize] = block;
+        }
+    }
 }
 
 // An access to `block` for which the way `drawn` is drawn: 1 where it misses. A hit changes nothing; a miss overwrites the
-// drawn way, empty or not.
-pub(crate) fn access(cache: &mut [u32; 4], block: u32, drawn: u64) -> u64 {
-    if holds(cache, block) {
+// drawn way of the block's set, empty or not.
+pub(crate) fn access(cache: &mut [u32; 16], sets: u32, block: u32, drawn: u64) -> u64 {
+    let base = base_of(sets, block);
+    if holds(cache, base, block) {
         return 0;
     }
-    if drawn < 4 {
-        let way = drawn as usize;
-        cache[way] = block;
-    }
+    overwrite(cache, base, drawn, block);
     1
 }
 
 // The bit `value` where the cache holds `block`; 0 is no block.
-fn bit(cache: &[u32; 4], block: u32, value: u64) -> u64 {
+fn bit(cache: &[u32; 16], sets: u32, block: u32, value: u64) -> u64 {
     if block == 0 {
         return 0;
     }
-    if holds(cache, block) {
+    if holds(cache, base_of(sets, block), block) {
         return value;
     }
     0
 }
 
 // The contents as a mask: the first tracked block is bit 0. At most four blocks are tracked here.
-pub(crate) fn contents(cache: &[u32; 4], tracked: &[u32]) -> u64 {
-    let first = bit(cache, read(tracked, 0), 1);
-    let second = bit(cache, read(tracked, 1), 2);
-    let third = bit(cache, read(tracked, 2), 4);
-    let fourth = bit(cache, read(tracked, 3), 8);
+pub(crate) fn contents(cache: &[u32; 16], sets: u32, tracked: &[u32]) -> u64 {
+    let first = bit(cache, sets, read(tracked, 0), 1);
+    let second = bit(cache, sets, read(tracked, 1), 2);
+    let third = bit(cache, sets, read(tracked, 2), 4);
+    let fourth = bit(cache, sets, read(tracked, 3), 8);
     first | second | third | fourth
 }

@@ -18,6 +18,7 @@ use crate::sequences::sequences_in;
 use crate::table::total;
 use estimate::analyse;
 use longest::longest_path;
+use rules::Cache;
 use rules::Length;
 use rules::Outcome;
 use rules::Units;
@@ -85,7 +86,7 @@ fn examine_counts(
 fn examine_path(
     table: &[u64],
     told: Told,
-    ways: u32,
+    cache: Cache,
     tracked: &[u32],
     accesses: &[u32],
     tight: bool,
@@ -94,14 +95,21 @@ fn examine_path(
     if 16 < accesses.len() {
         return report.compared(false);
     }
-    let all = power(ways as u64, accesses.len());
+    let all = power(cache.ways as u64, accesses.len());
     let path = Path {
         accesses: accesses.len() as u64,
         all,
         tight,
     };
     let mut counts: [u64; 256] = [0; 256];
-    count_each(&mut counts, accesses, tracked, ways as u64, all);
+    count_each(
+        &mut counts,
+        accesses,
+        tracked,
+        cache.sets,
+        cache.ways as u64,
+        all,
+    );
     examine_counts(table, told, &counts, path, report)
 }
 
@@ -109,7 +117,7 @@ fn examine_path(
 fn examine_first(
     table: &[u64],
     told: Told,
-    ways: u32,
+    cache: Cache,
     tracked: &[u32],
     path: &[u32],
     length: u64,
@@ -120,7 +128,7 @@ fn examine_first(
         return report.compared(false);
     }
     let end = length as usize;
-    examine_path(table, told, ways, tracked, &path[0..end], tight, report)
+    examine_path(table, told, cache, tracked, &path[0..end], tight, report)
 }
 
 // Whether a graph is a straight run whose blocks are all tracked.
@@ -135,7 +143,7 @@ fn is_tight(nodes: usize, tracked: &[u32], accesses: &[u32]) -> bool {
 fn examine_set(
     table: &[u64],
     told: Told,
-    ways: u32,
+    cache: Cache,
     tracked: &[u32],
     runs: &[u32],
     accesses: &[u32],
@@ -156,14 +164,14 @@ fn examine_set(
     let mut path: [u32; 16] = [0; 16];
     let length = collect(&mut path, chosen, runs, accesses);
     let tight = is_tight(nodes, tracked, accesses);
-    examine_first(table, told, ways, tracked, &path, length, tight, report)
+    examine_first(table, told, cache, tracked, &path, length, tight, report)
 }
 
 // Every path.
 fn examine_paths(
     table: &[u64],
     told: Told,
-    ways: u32,
+    cache: Cache,
     tracked: &[u32],
     runs: &[u32],
     accesses: &[u32],
@@ -177,7 +185,7 @@ fn examine_paths(
         done = examine_set(
             table,
             told,
-            ways,
+            cache,
             tracked,
             runs,
             accesses,
@@ -195,7 +203,7 @@ fn examine_result(
     result: &[u64],
     states: usize,
     told: Told,
-    ways: u32,
+    cache: Cache,
     limit: u32,
     tracked: &[u32],
     runs: &[u32],
@@ -210,7 +218,7 @@ fn examine_result(
     let table = &result[0..end];
     let few = report.compared(states <= limit as usize);
     let whole = few.compared(total(table) == WHOLE);
-    let paths = examine_paths(table, told, ways, tracked, runs, accesses, edges, whole);
+    let paths = examine_paths(table, told, cache, tracked, runs, accesses, edges, whole);
     paths.compared(paths.longest == told.longest)
 }
 
@@ -232,7 +240,7 @@ fn told_of(aside: Units, longest: u64) -> Told {
 
 // The graph call with one state limit.
 fn examine(
-    ways: u32,
+    cache: Cache,
     limit: u32,
     tracked: &[u32],
     runs: &[u32],
@@ -243,9 +251,9 @@ fn examine(
     let mut result: [u64; 192] = [0; 192];
     let mut work: [u64; 15552] = [0; 15552];
     let called = report.called();
-    let longest = accesses_of(longest_path(ways, limit, tracked, runs, accesses, edges));
+    let longest = accesses_of(longest_path(cache, limit, tracked, runs, accesses, edges));
     match analyse(
-        ways,
+        cache,
         limit,
         tracked,
         runs,
@@ -258,7 +266,7 @@ fn examine(
             &result,
             states,
             told_of(aside, longest),
-            ways,
+            cache,
             limit,
             tracked,
             runs,
@@ -272,16 +280,16 @@ fn examine(
 
 // The graph call with a wide state limit and with narrow ones.
 pub(crate) fn examine_limits(
-    ways: u32,
+    cache: Cache,
     tracked: &[u32],
     runs: &[u32],
     accesses: &[u32],
     edges: &[u32],
     report: Report,
 ) -> Report {
-    let wide = examine(ways, 64, tracked, runs, accesses, edges, report);
-    let one = examine(ways, 1, tracked, runs, accesses, edges, wide);
-    let two = examine(ways, 2, tracked, runs, accesses, edges, one);
-    let three = examine(ways, 3, tracked, runs, accesses, edges, two);
-    examine(ways, 5, tracked, runs, accesses, edges, three)
+    let wide = examine(cache, 64, tracked, runs, accesses, edges, report);
+    let one = examine(cache, 1, tracked, runs, accesses, edges, wide);
+    let two = examine(cache, 2, tracked, runs, accesses, edges, one);
+    let three = examine(cache, 3, tracked, runs, accesses, edges, two);
+    examine(cache, 5, tracked, runs, accesses, edges, three)
 }

@@ -1,13 +1,34 @@
 // Small branching graphs. Edges are written from, to, from, to.
 use crate::report::Report;
+use crate::sweep::one_set;
 use crate::sweep::sweep;
+use rules::Cache;
 
-// One graph with one, two and three ways, and with some blocks untracked: every `stride`-th access list over three blocks.
+// One graph on one set, with one, two and three ways, and with some blocks untracked: every `stride`-th access list over three blocks.
+fn on_one_set(runs: &[u32], edges: &[u32], length: usize, stride: u64, report: Report) -> Report {
+    let one = sweep(
+        one_set(1),
+        &[1, 2, 3],
+        3,
+        runs,
+        edges,
+        length,
+        stride,
+        report,
+    );
+    let two = sweep(one_set(2), &[3, 1, 2], 3, runs, edges, length, stride, one);
+    let three = sweep(one_set(3), &[2, 3, 1], 3, runs, edges, length, stride, two);
+    sweep(one_set(2), &[2], 3, runs, edges, length, stride, three)
+}
+
+// And on two and four sets: 1 and 3 belong to one of the two.
 fn graph(runs: &[u32], edges: &[u32], length: usize, stride: u64, report: Report) -> Report {
-    let one = sweep(1, &[1, 2, 3], 3, runs, edges, length, stride, report);
-    let two = sweep(2, &[3, 1, 2], 3, runs, edges, length, stride, one);
-    let three = sweep(3, &[2, 3, 1], 3, runs, edges, length, stride, two);
-    sweep(2, &[2], 3, runs, edges, length, stride, three)
+    let two = Cache { sets: 2, ways: 2 };
+    let four = Cache { sets: 4, ways: 1 };
+    let one = on_one_set(runs, edges, length, stride, report);
+    let all = sweep(two, &[3, 1, 2], 3, runs, edges, length, stride, one);
+    let some = sweep(two, &[1, 2], 3, runs, edges, length, stride, all);
+    sweep(four, &[2, 1], 3, runs, edges, length, stride, some)
 }
 
 // Nodes 1 and 2 between 0 and 3: the two sides of a branch.

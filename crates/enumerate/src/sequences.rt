@@ -19,17 +19,17 @@ fn cell_of(mask: u64, misses: u64) -> usize {
 
 // The cell of one choice sequence: way `draws` % `ways` is drawn at the first access, and so on digit by digit. There is a
 // draw at every access, hits included.
-fn walk(path: &[u32], tracked: &[u32], ways: u64, draws: u64) -> usize {
-    let mut cache: [u32; 4] = [0; 4];
+fn walk(path: &[u32], tracked: &[u32], sets: u32, ways: u64, draws: u64) -> usize {
+    let mut cache: [u32; 16] = [0; 16];
     let mut misses: u64 = 0;
     let mut left = draws;
     let mut i: usize = 0;
     while i < path.len() {
-        misses = plus(misses, access(&mut cache, path[i], digit(left, ways)));
+        misses = plus(misses, access(&mut cache, sets, path[i], digit(left, ways)));
         left = other_digits(left, ways);
         i += 1;
     }
-    cell_of(contents(&cache, tracked), misses)
+    cell_of(contents(&cache, sets, tracked), misses)
 }
 
 fn count_in(counts: &mut [u64; 256], cell: usize) {
@@ -43,12 +43,13 @@ pub(crate) fn count_each(
     counts: &mut [u64; 256],
     path: &[u32],
     tracked: &[u32],
+    sets: u32,
     ways: u64,
     all: u64,
 ) {
     let mut draws: u64 = 0;
     while draws < all {
-        count_in(counts, walk(path, tracked, ways, draws));
+        count_in(counts, walk(path, tracked, sets, ways, draws));
         draws += 1;
     }
 }

@@ -1,10 +1,12 @@
 // Straight runs: one node, no edges.
 use crate::report::Report;
+use crate::sweep::one_set;
 use crate::sweep::sweep;
+use rules::Cache;
 
 // Every run of `length` accesses over `blocks` blocks, or every `stride`-th.
 fn runs_of(
-    ways: u32,
+    cache: Cache,
     tracked: &[u32],
     blocks: u64,
     length: u32,
@@ -13,7 +15,7 @@ fn runs_of(
 ) -> Report {
     let runs: [u32; 1] = [length];
     sweep(
-        ways,
+        cache,
         tracked,
         blocks,
         &runs,
@@ -25,11 +27,11 @@ fn runs_of(
 }
 
 // All runs shorter than `lengths`.
-fn short_runs(ways: u32, tracked: &[u32], blocks: u64, lengths: u32, report: Report) -> Report {
+fn short_runs(cache: Cache, tracked: &[u32], blocks: u64, lengths: u32, report: Report) -> Report {
     let mut done = report;
     let mut length: u32 = 0;
     while length < lengths {
-        done = runs_of(ways, tracked, blocks, length, 1, done);
+        done = runs_of(cache, tracked, blocks, length, 1, done);
         length += 1;
     }
     done
@@ -37,30 +39,46 @@ fn short_runs(ways: u32, tracked: &[u32], blocks: u64, lengths: u32, report: Rep
 
 // Three blocks, all tracked, listed in another order than by number.
 fn tracked_runs(report: Report) -> Report {
-    let one = short_runs(1, &[2, 3, 1], 3, 6, report);
-    let two = short_runs(2, &[2, 3, 1], 3, 6, one);
-    let three = short_runs(3, &[2, 3, 1], 3, 6, two);
-    short_runs(4, &[2, 3, 1], 3, 5, three)
+    let one = short_runs(one_set(1), &[2, 3, 1], 3, 6, report);
+    let two = short_runs(one_set(2), &[2, 3, 1], 3, 6, one);
+    let three = short_runs(one_set(3), &[2, 3, 1], 3, 6, two);
+    short_runs(one_set(4), &[2, 3, 1], 3, 5, three)
 }
 
 // Four blocks, of which two are tracked.
 fn untracked_runs(report: Report) -> Report {
-    let one = short_runs(1, &[3, 1], 4, 5, report);
-    let two = short_runs(2, &[3, 1], 4, 5, one);
-    short_runs(3, &[3, 1], 4, 5, two)
+    let one = short_runs(one_set(1), &[3, 1], 4, 5, report);
+    let two = short_runs(one_set(2), &[3, 1], 4, 5, one);
+    short_runs(one_set(3), &[3, 1], 4, 5, two)
 }
 
 // Some longer runs.
 fn long_runs(report: Report) -> Report {
-    let two = runs_of(2, &[1, 2, 3], 3, 8, 97, report);
-    let three = runs_of(3, &[1, 2, 3], 3, 8, 97, two);
-    let four = runs_of(4, &[1, 2, 3, 4], 4, 7, 499, three);
-    let longest = runs_of(2, &[3, 2, 1], 3, 12, 29989, four);
-    runs_of(3, &[2, 4], 4, 8, 997, longest)
+    let two = runs_of(one_set(2), &[1, 2, 3], 3, 8, 97, report);
+    let three = runs_of(one_set(3), &[1, 2, 3], 3, 8, 97, two);
+    let four = runs_of(one_set(4), &[1, 2, 3, 4], 4, 7, 499, three);
+    let longest = runs_of(one_set(2), &[3, 2, 1], 3, 12, 29989, four);
+    runs_of(one_set(3), &[2, 4], 4, 8, 997, longest)
+}
+
+// Two sets: 1 and 3 belong to one, 2 and 4 to the other.
+fn on_two_sets(report: Report) -> Report {
+    let one = short_runs(Cache { sets: 2, ways: 1 }, &[2, 3, 1], 3, 6, report);
+    let two = short_runs(Cache { sets: 2, ways: 2 }, &[2, 3, 1], 3, 6, one);
+    let three = short_runs(Cache { sets: 2, ways: 3 }, &[2, 3, 1], 3, 5, two);
+    let some = short_runs(Cache { sets: 2, ways: 2 }, &[3, 4], 4, 5, three);
+    runs_of(Cache { sets: 2, ways: 2 }, &[1, 2, 3, 4], 4, 8, 499, some)
+}
+
+// Four sets: 1 and 5 belong to one, each other block has one to itself.
+fn on_four_sets(report: Report) -> Report {
+    let one = short_runs(Cache { sets: 4, ways: 1 }, &[5, 2, 1], 5, 5, report);
+    let two = runs_of(Cache { sets: 4, ways: 2 }, &[1, 5, 4, 2], 5, 6, 7, one);
+    runs_of(Cache { sets: 4, ways: 3 }, &[5, 3, 1], 5, 6, 29, two)
 }
 
 pub(crate) fn all_straight(report: Report) -> Report {
     let tracked = tracked_runs(report);
     let untracked = untracked_runs(tracked);
-    long_runs(untracked)
+    on_four_sets(on_two_sets(long_runs(untracked)))
 }

@@ -4,6 +4,12 @@ use crate::numbers::digit;
 use crate::numbers::other_digits;
 use crate::numbers::power;
 use crate::report::Report;
+use rules::Cache;
+
+// A cache of one set, as document 01 has it.
+pub(crate) fn one_set(ways: u32) -> Cache {
+    Cache { sets: 1, ways }
+}
 
 // Block numbers are 1 and up.
 fn block_of(digit: u64) -> u32 {
@@ -11,7 +17,8 @@ fn block_of(digit: u64) -> u32 {
         0 => 1,
         1 => 2,
         2 => 3,
-        _ => 4,
+        3 => 4,
+        _ => 5,
     }
 }
 
@@ -28,7 +35,7 @@ fn write_list(list: &mut [u32], number: u64, blocks: u64) {
 
 // The first `length` accesses of a list.
 fn examine_first(
-    ways: u32,
+    cache: Cache,
     tracked: &[u32],
     runs: &[u32],
     list: &[u32],
@@ -39,12 +46,12 @@ fn examine_first(
     if list.len() < length {
         return report.compared(false);
     }
-    examine_limits(ways, tracked, runs, &list[0..length], edges, report)
+    examine_limits(cache, tracked, runs, &list[0..length], edges, report)
 }
 
 // One access list of `length` accesses: `number` tells which. Where `stride` does not divide `number` it is left out.
 fn examine_list(
-    ways: u32,
+    cache: Cache,
     tracked: &[u32],
     blocks: u64,
     runs: &[u32],
@@ -59,12 +66,12 @@ fn examine_list(
     }
     let mut list: [u32; 16] = [0; 16];
     write_list(&mut list, number, blocks);
-    examine_first(ways, tracked, runs, &list, edges, length, report)
+    examine_first(cache, tracked, runs, &list, edges, length, report)
 }
 
 // Every access list of `length` accesses over `blocks` blocks, or every `stride`-th.
 pub(crate) fn sweep(
-    ways: u32,
+    cache: Cache,
     tracked: &[u32],
     blocks: u64,
     runs: &[u32],
@@ -78,7 +85,7 @@ pub(crate) fn sweep(
     let mut number: u64 = 0;
     while number < lists {
         done = examine_list(
-            ways,
+            cache,
             tracked,
             blocks,
             runs,

@@ -7,6 +7,7 @@ use native.Mathlib.Numerals.{add-one}
 use native.Mathlib.Omega.{arith}
 use lib.ListN.{length, getD, set, take, drop, replicate, length-drop, length-replicate, replicate-append-replicate}
 use lib.Seq.{paste, paste-suc, drop-at, getD-drop}
+use Rattle.rules.specs.declared.Cache.{Cache}
 use Rattle.rules.specs.declared.State.{State}
 use Rattle.rules.specs.declared.Refusal.{Refusal}
 use Rattle.rules.specs.declared.Verdict.{Verdict}
@@ -71,12 +72,14 @@ module _ (last m : ℕ) (ws : List ℕ) (l : last < 64) (long : 15552 ≤ length
 
 -- ---- what the work needs does not depend on the rooms
 
-module _ (N K : ℕ) (ts ns bs es : List ℕ) (rs ws : List ℕ) where
-  pub checked-without : Checked (handed N K ts ns bs es rs ws) → Checked (inputOf N K ts ns bs es)
+module _ (c : Cache) (K : ℕ) (ts ns bs es : List ℕ) (rs ws : List ℕ) where
+  pub checked-without : Checked (handed c K ts ns bs es rs ws) → Checked (inputOf c K ts ns bs es)
   checked-without ok =
       record {
         some-ways = ok .some-ways;
         few-ways = ok .few-ways;
+        known-sets = ok .known-sets;
+        some-sets = ok .some-sets;
         some-states = ok .some-states;
         few-states = ok .few-states;
         few-tracked = ok .few-tracked;
@@ -92,30 +95,30 @@ module _ (N K : ℕ) (ts ns bs es : List ℕ) (rs ws : List ℕ) where
 
 -- ---- the answer
 
-module _ (N K : ℕ) (ts ns bs es rs ws : List ℕ) where
-  pub leaves-refused : (v : Verdict) (r : Refusal) → v ≡ verdict (handed N K ts ns bs es rs ws) → v ≡ Refused r
-      → record { answer = RefusedOutcome r; result = rs; work = ws } ≡ analysed N K ts ns bs es rs ws
+module _ (c : Cache) (K : ℕ) (ts ns bs es rs ws : List ℕ) where
+  pub leaves-refused : (v : Verdict) (r : Refusal) → v ≡ verdict (handed c K ts ns bs es rs ws) → v ≡ Refused r
+      → record { answer = RefusedOutcome r; result = rs; work = ws } ≡ analysed c K ts ns bs es rs ws
   unfolding analysed outcome
   leaves-refused v r e f = rw (← e, f) (rw (← e, f) refl)
 
-  pub leaves-finished : (n a : ℕ) (T : List State) (rs′ ws′ : List ℕ) → Accepted ≡ verdict (handed N K ts ns bs es rs ws) → T ≡ finished (handed N K ts ns bs es rs ws) .table
-      → a ≡ finished (handed N K ts ns bs es rs ws) .aside → n ≡ length T → rs′ ≡ written T (length rs) → ws′ ≡ replicate (length ws) 0
-      → record { answer = Finished n (units a); result = rs′; work = ws′ } ≡ analysed N K ts ns bs es rs ws
+  pub leaves-finished : (n a : ℕ) (T : List State) (rs′ ws′ : List ℕ) → Accepted ≡ verdict (handed c K ts ns bs es rs ws) → T ≡ finished (handed c K ts ns bs es rs ws) .table
+      → a ≡ finished (handed c K ts ns bs es rs ws) .aside → n ≡ length T → rs′ ≡ written T (length rs) → ws′ ≡ replicate (length ws) 0
+      → record { answer = Finished n (units a); result = rs′; work = ws′ } ≡ analysed c K ts ns bs es rs ws
   unfolding analysed outcome
-  leaves-finished n a T rs′ ws′ v t b c p q = rw (← v) (rw (← v, p, q, c, t, b) refl)
+  leaves-finished n a T rs′ ws′ v t b m p q = rw (← v) (rw (← v, p, q, m, t, b) refl)
 
 -- the last slot holds the finished table
-module _ (N K : ℕ) (ts ns bs es rs ws : List ℕ) (a : ℕ) (T : List State) (some : 0 < length ns)
-    (done : workedIn (length ns) a T ≡ worked (inputOf N K ts ns bs es) (length ns)) where
-  pub last-table : tableIn (length ns - 1) T ≡ finished (handed N K ts ns bs es rs ws) .table
+module _ (c : Cache) (K : ℕ) (ts ns bs es rs ws : List ℕ) (a : ℕ) (T : List State) (some : 0 < length ns)
+    (done : workedIn (length ns) a T ≡ worked (inputOf c K ts ns bs es) (length ns)) where
+  pub last-table : tableIn (length ns - 1) T ≡ finished (handed c K ts ns bs es rs ws) .table
   unfolding finished
   last-table =
       sym (tablesIn-at (length ns) T (length ns - 1) (omega arith))
-      ∙ ap (λ (d : Worked). tableAt d (length ns - 1)) (done ∙ same-worked N K ts ns bs es (length rs / 3) (length ws / 3) (length ns))
+      ∙ ap (λ (d : Worked). tableAt d (length ns - 1)) (done ∙ same-worked c K ts ns bs es (length rs / 3) (length ws / 3) (length ns))
 
-  pub last-aside : a ≡ finished (handed N K ts ns bs es rs ws) .aside
+  pub last-aside : a ≡ finished (handed c K ts ns bs es rs ws) .aside
   unfolding finished
-  last-aside = ap (λ (d : Worked). d .aside) (done ∙ same-worked N K ts ns bs es (length rs / 3) (length ws / 3) (length ns))
+  last-aside = ap (λ (d : Worked). d .aside) (done ∙ same-worked c K ts ns bs es (length rs / 3) (length ws / 3) (length ns))
 
 -- which the result room has room for
 pub finished-fits : (i : Input) → Checked i → length (finished i .table) ≤ i .limit

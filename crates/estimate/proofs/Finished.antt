@@ -6,6 +6,7 @@ use mathlib.Core.List.{List}
 use Prim.Native.Nat.{ℕ, _-_, _*_, _/_, _≤_}
 use native.Mathlib.Omega.{arith}
 use lib.ListN.{length, take, replicate}
+use Rattle.rules.specs.declared.Cache.{Cache}
 use Rattle.rules.specs.declared.Verdict.{Verdict}
 use Rattle.rules.specs.declared.Verdict.the-variants.{Accepted, Refused}
 use Rattle.rules.specs.declared.Outcome.{Outcome}
@@ -55,47 +56,47 @@ module _ (i : Input) (rs ws : List ℕ) where
       go Accepted e = absurd (numbered why (sym (ap (λ (q : Outcome). outcomeSays q .number) e)))
       go (Refused r) e = (refl, refl)
 
-module _ (N K : ℕ) (ts ns bs es rs ws : List ℕ) where
+module _ (c : Cache) (K : ℕ) (ts ns bs es rs ws : List ℕ) where
   -- what the call leaves, and what its answer says
   abbrev left : After
-  left = analysed N K ts ns bs es rs ws
+  left = analysed c K ts ns bs es rs ws
 
   abbrev said : OutcomeSays
   said = outcomeSays (left .answer)
 
-  pub result-finished : said .number ≡ 0 → take (said .states) (tableOf (left .result)) ≡ finished (handed N K ts ns bs es rs ws) .table
+  pub result-finished : said .number ≡ 0 → take (said .states) (tableOf (left .result)) ≡ finished (handed c K ts ns bs es rs ws) .table
   unfolding analysed
   result-finished h =
-      let i = handed N K ts ns bs es rs ws in
+      let i = handed c K ts ns bs es rs ws in
       rw (leaves-outcome i rs ws (verdict i)) (leaves-finished i rs ws (rw (leaves-outcome i rs ws (verdict i)) at h))
 
   pub result-is-table : said .number ≡ 0 → isTable (take (said .states) (tableOf (left .result))) ≡ true
   unfolding analysed
   result-is-table h =
-      let i = handed N K ts ns bs es rs ws in
+      let i = handed c K ts ns bs es rs ws in
       rw (result-finished h) (finished-is-table i (rw (leaves-outcome i rs ws (verdict i)) at h))
 
 -- with room for every state limit, the call answers and leaves what the definitions say of an input with just the room that is needed
-module _ (N K : ℕ) (ts ns bs es rs ws : List ℕ) (result : 192 ≤ length rs) (working : 15552 ≤ length ws) (a : Outcome) (rs′ ws′ : List ℕ)
-    (is : record { answer = a; result = rs′; work = ws′ } ≡ analysed N K ts ns bs es rs ws) where
+module _ (c : Cache) (K : ℕ) (ts ns bs es rs ws : List ℕ) (result : 192 ≤ length rs) (working : 15552 ≤ length ws) (a : Outcome) (rs′ ws′ : List ℕ)
+    (is : record { answer = a; result = rs′; work = ws′ } ≡ analysed c K ts ns bs es rs ws) where
   abbrev i : Input
-  i = handed N K ts ns bs es rs ws
+  i = handed c K ts ns bs es rs ws
 
   -- the answer is that of the input with the rooms as they are
   answers-handed : a ≡ outcome i
   unfolding analysed
   answers-handed = ap (λ (f : After). f .answer) is ∙ leaves-outcome i rs ws (verdict i)
 
-  pub call-answers : a ≡ outcome (inputOf N K ts ns bs es)
+  pub call-answers : a ≡ outcome (inputOf c K ts ns bs es)
   call-answers =
       answers-handed
-      ∙ sym (same-outcome N K ts ns bs es (length rs / 3) (length ws / 3) (omega arith) (omega arith))
+      ∙ sym (same-outcome c K ts ns bs es (length rs / 3) (length ws / 3) (omega arith) (omega arith))
 
-  pub call-finishes : outcomeSays a .number ≡ 0 → take (outcomeSays a .states) (tableOf rs′) ≡ finished (inputOf N K ts ns bs es) .table
+  pub call-finishes : outcomeSays a .number ≡ 0 → take (outcomeSays a .states) (tableOf rs′) ≡ finished (inputOf c K ts ns bs es) .table
   call-finishes h =
       ap (λ (f : After). take (outcomeSays (f .answer) .states) (tableOf (f .result))) is
-      ∙ result-finished N K ts ns bs es rs ws (sym (ap (λ (f : After). outcomeSays (f .answer) .number) is) ∙ h)
-      ∙ ap (λ (w : Work). w .table) (sym (same-finished N K ts ns bs es (length rs / 3) (length ws / 3)))
+      ∙ result-finished c K ts ns bs es rs ws (sym (ap (λ (f : After). outcomeSays (f .answer) .number) is) ∙ h)
+      ∙ ap (λ (w : Work). w .table) (sym (same-finished c K ts ns bs es (length rs / 3) (length ws / 3)))
 
   pub call-clears : outcomeSays a .number ≡ 0 → ws′ ≡ replicate (length ws) 0
   unfolding analysed

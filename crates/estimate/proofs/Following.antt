@@ -14,19 +14,20 @@ use lib.Seq.{append-snoc, length-take-le, take-suc, take-all}
 use mir.Syntax.{w64}
 use mir.Val.{Fits}
 use borrow.Author.Tests.{eq-eqb}
-use Rattle.rules.specs.declared.Place.{Place}
+use Rattle.rules.specs.declared.Target.{Target}
 use Rattle.rules.specs.declared.State.{State}
 use Rattle.basics.specs.Sums.{sumOver}
 use Rattle.basics.proofs.Sums.{sum-append}
 use Rattle.rules.specs.Units.{whole, more}
-use Rattle.rules.specs.Contents.{bit, has, heldBelow, held, size, without}
+use Rattle.rules.specs.Contents.{bit, has, heldBelow, held, size, without, atRisk}
 use Rattle.rules.specs.Ordered.{insertAll}
 use Rattle.rules.specs.Table.{state, unitsOf, rising, present, add, stateAt}
 use Rattle.rules.specs.Step.{missed, miss, successors, leftOver, access, accessAside}
 use Rattle.rules.specs.Shape.{Every}
 use Rattle.rules.proofs.Splitting.{more-adds, more-more}
 use Rattle.rules.proofs.Lists.{every-take, every-at, every-weaker, flat-snoc}
-use Rattle.rules.proofs.Contents.{sixteen-places, size-zero}
+use Rattle.rules.proofs.Contents.{sixteen-places, size-zero, size-sub}
+use Rattle.rules.proofs.Sets.{risk-sub}
 use Rattle.rules.proofs.Step.{length-access}
 use Rattle.rules.proofs.Table.{rising-is, rising-so, rising-add, length-present, length-present-append, length-add, add-append}
 use Rattle.estimate.specs.Placing.{Added}
@@ -53,14 +54,14 @@ module _ (S : List State) (n m : ℕ) (T T₁ : List State) (a : Added S n m T T
 
 -- ---- each block lost in turn
 
-module _ (x : Place) (s : State) (q : ℕ) where
-  -- what the loss of each of the blocks below place k leaves
+module _ (x : Target) (s : State) (E q : ℕ) where
+  -- what the loss of each of the blocks of E below place k leaves
   abbrev pub lostBelow : ℕ → List State
-  lostBelow k = map (λ e. missed x s (without (s .mask) e) q) (heldBelow k (s .mask))
+  lostBelow k = map (λ e. missed x s (without (s .mask) e) q) (heldBelow k E)
 
-  pub lost-next : (k : ℕ) → lostBelow (k + 1) ≡ lostBelow k ++ lostAt x s q k
+  pub lost-next : (k : ℕ) → lostBelow (k + 1) ≡ lostBelow k ++ lostAt x s E q k
   unfolding heldBelow lostAt
-  lost-next k = rw (add-one k) (map-append (λ e. missed x s (without (s .mask) e) q) (heldBelow k (s .mask)) _ ∙ ap (lostBelow k ++_) (go (bit (s .mask) k)))
+  lost-next k = rw (add-one k) (map-append (λ e. missed x s (without (s .mask) e) q) (heldBelow k E) _ ∙ ap (lostBelow k ++_) (go (bit E k)))
     where
       go : (b : Bool) → map (λ e. missed x s (without (s .mask) e) q) (cond b (k ∷ []) []) ≡ cond b (missed x s (without (s .mask) k) q ∷ []) []
       go true = refl
@@ -68,35 +69,35 @@ module _ (x : Place) (s : State) (q : ℕ) where
 
   lost-few : (k : ℕ) → length (lostBelow k) ≤ k
   unfolding heldBelow
-  lost-few k = rw (length-map (heldBelow k (s .mask)) (λ e. missed x s (without (s .mask) e) q)) (few k)
+  lost-few k = rw (length-map (heldBelow k E) (λ e. missed x s (without (s .mask) e) q)) (few k)
     where
-      few : (k : ℕ) → length (heldBelow k (s .mask)) ≤ k
+      few : (k : ℕ) → length (heldBelow k E) ≤ k
       few zero = omega arith
-      few (suc k) = go (bit (s .mask) k) (few k)
+      few (suc k) = go (bit E k) (few k)
         where
-          go : (b : Bool) → length (heldBelow k (s .mask)) ≤ k → length (heldBelow k (s .mask) ++ cond b (k ∷ []) []) ≤ suc k
-          go true h = omega (arith, length-append (heldBelow k (s .mask)) (k ∷ []))
-          go false h = omega (arith, length-append (heldBelow k (s .mask)) [])
+          go : (b : Bool) → length (heldBelow k E) ≤ k → length (heldBelow k E ++ cond b (k ∷ []) []) ≤ suc k
+          go true h = omega (arith, length-append (heldBelow k E) (k ∷ []))
+          go false h = omega (arith, length-append (heldBelow k E) [])
 
   pub lost-room : (n m k : ℕ) (T T₁ : List State) → n ≤ length T → Added (lostBelow k) n m T T₁ → m ≤ n + k
   lost-room n m k T T₁ room a =
       omega (arith, added-length (lostBelow k) n m T T₁ a room, length-present (lostBelow k), lost-few k)
 
-  pub lost-all : lostBelow 16 ≡ map (λ e. missed x s (without (s .mask) e) q) (held (s .mask))
+  pub lost-all : lostBelow 16 ≡ map (λ e. missed x s (without (s .mask) e) q) (held E)
   unfolding held
   lost-all = ap lostBelow (sym sixteen-places)
 
--- one block: lost where it is held
-module _ (x : Place) (s : State) (q k : ℕ) where
-  pub lost-here : bit (s .mask) k ≡ true → (D : ℕ) (t : State) (n r : ℕ) (T T′ : List State) → D ≡ without (s .mask) k → t ≡ missed x s D q
-      → Added (t ∷ []) n r T T′ → Added (lostAt x s q k) n r T T′
+-- one block: lost where it is one of E
+module _ (x : Target) (s : State) (E q k : ℕ) where
+  pub lost-here : bit E k ≡ true → (D : ℕ) (t : State) (n r : ℕ) (T T′ : List State) → D ≡ without (s .mask) k → t ≡ missed x s D q
+      → Added (t ∷ []) n r T T′ → Added (lostAt x s E q k) n r T T′
   unfolding lostAt
   lost-here h D t n r T T′ p e a = subst (λ (S : List State). Added S n r T T′) is a
     where
-      is : t ∷ [] ≡ lostAt x s q k
+      is : t ∷ [] ≡ lostAt x s E q k
       is = rw h (ap (λ (u : State). u ∷ []) (e ∙ ap (λ (C : ℕ). missed x s C q) p))
 
-  pub lost-none : bit (s .mask) k ≡ false → (n : ℕ) (T : List State) → n ≤ length T → Added (lostAt x s q k) n n T T
+  pub lost-none : bit E k ≡ false → (n : ℕ) (T : List State) → n ≤ length T → Added (lostAt x s E q k) n n T T
   unfolding lostAt
   lost-none h n T room = rw h (added-nothing n T room)
 
@@ -106,24 +107,24 @@ module _ (x : Place) (s : State) (q k : ℕ) where
 pub shares-fit : (d q u N : ℕ) → d ≤ 16 → q ≡ u / N → u ≤ whole → Fits w64 (d * q)
 shares-fit d q u N l e h = record { fits = lt-of-le-of-lt (mul-le-mul l (le-trans (le-of-eq e) (le-trans (div-le-self u N) h))) (lit< tt) }
 
-module _ (x : Place) (s : State) (N q : ℕ) where
+module _ (x : Target) (s : State) (E N q : ℕ) where
   -- where a way loses a block
   abbrev lostAll : List State
-  lostAll = map (λ e. missed x s (without (s .mask) e) q) (held (s .mask))
+  lostAll = map (λ e. missed x s (without (s .mask) e) q) (held E)
 
   module _ (n : ℕ) (T : List State) (room : n ≤ length T) where
-    pub lost-count : (m : ℕ) (T₁ : List State) → Added lostAll n m T T₁ → m ≤ n + size (s .mask)
+    pub lost-count : (m : ℕ) (T₁ : List State) → Added lostAll n m T T₁ → m ≤ n + size E
     unfolding size
     lost-count m T₁ a =
         omega (
           arith,
           added-length lostAll n m T T₁ a room,
           length-present lostAll,
-          length-map (held (s .mask)) (λ e. missed x s (without (s .mask) e) q),
+          length-map (held E) (λ e. missed x s (without (s .mask) e) q),
         )
 
-    -- where every way holds a block, no units are kept
-    pub kept-count : (m z : ℕ) (t : State) (T₁ T₂ : List State) (r : ℕ) → size (s .mask) ≤ N → z ≡ size (s .mask) → t ≡ missed x s (s .mask) ((N - z) * q)
+    -- where every way of the set holds a block, no units are kept
+    pub kept-count : (m z : ℕ) (t : State) (T₁ T₂ : List State) (r : ℕ) → size E ≤ N → z ≡ size E → t ≡ missed x s (s .mask) ((N - z) * q)
         → Added lostAll n m T T₁ → Added (t ∷ []) m r T₁ T₂ → r ≤ n + N
     unfolding size
     kept-count m z t T₁ T₂ r small e p a b =
@@ -132,46 +133,46 @@ module _ (x : Place) (s : State) (N q : ℕ) where
           added-length (lostAll ++ (t ∷ [])) n r T T₂ (added-then lostAll n m T T₁ a (t ∷ []) r T₂ b) room,
           length-present-append lostAll (t ∷ []),
           length-present lostAll,
-          length-map (held (s .mask)) (λ e. missed x s (without (s .mask) e) q),
-          last (decLt (size (s .mask)) N),
+          length-map (held E) (λ e. missed x s (without (s .mask) e) q),
+          last (decLt (size E) N),
         )
       where
         gone : (d : ℕ) → d ≡ 0 → unitsOf t ≡ d * q → eqb (unitsOf t) 0 ≡ true
         gone d w v = eq-eqb (unitsOf t) 0 (v ∙ rw w (omega arith))
 
-        last : Dec (size (s .mask) < N) → length (held (s .mask)) + length (present (t ∷ [])) ≤ N
+        last : Dec (size E < N) → length (held E) + length (present (t ∷ [])) ≤ N
         last (yes l) = omega (arith, length-present (t ∷ []))
         last (no l) = rw (gone (N - z) (omega arith) (ap unitsOf p)) (omega arith)
 
-  pub miss-put : (n m₁ m₂ r : ℕ) (T T₁ T₂ T₃ : List State) (p z : ℕ) (t₁ t₂ : State) → q ≡ unitsOf s / N → p ≡ unitsOf s % N → z ≡ size (s .mask)
+  pub miss-put : (n m₁ m₂ r : ℕ) (T T₁ T₂ T₃ : List State) (p z : ℕ) (t₁ t₂ : State) → E ≡ atRisk x (s .mask) → q ≡ unitsOf s / N → p ≡ unitsOf s % N → z ≡ size E
       → t₁ ≡ missed x s (s .mask) ((N - z) * q) → t₂ ≡ missed x s 0 p
       → Added lostAll n m₁ T T₁ → Added (t₁ ∷ []) m₁ m₂ T₁ T₂ → Added (t₂ ∷ []) m₂ r T₂ T₃ → Added (miss N x s) n r T T₃
   unfolding miss
-  miss-put n m₁ m₂ r T T₁ T₂ T₃ p z t₁ t₂ eq ep ez e₁ e₂ a b c =
+  miss-put n m₁ m₂ r T T₁ T₂ T₃ p z t₁ t₂ ee eq ep ez e₁ e₂ a b c =
       subst (λ (S : List State). Added S n r T T₃) is
       (added-then (lostAll ++ (t₁ ∷ [])) n m₂ T T₂ (added-then lostAll n m₁ T T₁ a (t₁ ∷ []) m₂ T₂ b) (t₂ ∷ []) r T₃ c)
     where
       is : lostAll ++ (t₁ ∷ []) ++ (t₂ ∷ []) ≡ miss N x s
-      is = append-snoc lostAll t₁ (t₂ ∷ []) ∙ rw (e₁, e₂, ep, ez, eq)
+      is = append-snoc lostAll t₁ (t₂ ∷ []) ∙ rw (e₁, e₂, ep, ez, eq, ee)
 
 -- ---- a hit or a miss
 
-module _ (N : ℕ) (x : Place) (s : State) (n r : ℕ) (T T′ : List State) where
-  pub hit-put : has (s .mask) x ≡ true → Added (s ∷ []) n r T T′ → Added (successors N x s) n r T T′
+module _ (N : ℕ) (x : Target) (s : State) (n r : ℕ) (T T′ : List State) where
+  pub hit-put : has (s .mask) (x .place) ≡ true → Added (s ∷ []) n r T T′ → Added (successors N x s) n r T T′
   unfolding successors
   hit-put h a = rw h a
 
-  pub miss-goes : has (s .mask) x ≡ false → Added (miss N x s) n r T T′ → Added (successors N x s) n r T T′
+  pub miss-goes : has (s .mask) (x .place) ≡ false → Added (miss N x s) n r T T′ → Added (successors N x s) n r T T′
   unfolding successors
   miss-goes h a = rw h a
 
 -- what is set aside of a state
-module _ (N : ℕ) (x : Place) (s : State) where
-  pub over-none : has (s .mask) x ≡ true → 0 ≡ leftOver N x s
+module _ (N : ℕ) (x : Target) (s : State) where
+  pub over-none : has (s .mask) (x .place) ≡ true → 0 ≡ leftOver N x s
   unfolding leftOver
   over-none h = rw h
 
-  pub over-rest : has (s .mask) x ≡ false → (p : ℕ) → p ≡ unitsOf s % N → p ≡ leftOver N x s
+  pub over-rest : has (s .mask) (x .place) ≡ false → (p : ℕ) → p ≡ unitsOf s % N → p ≡ leftOver N x s
   unfolding leftOver
   over-rest h p e = rw h e
 
@@ -180,7 +181,7 @@ module _ (N : ℕ) (x : Place) (s : State) where
 take-next : (S : List State) (i : ℕ) (s : State) → i < length S → s ≡ stateAt S i → take i S ++ (s ∷ []) ≡ take (i + 1) S
 take-next S i s l e = rw (add-one i, e) (sym (take-suc S i (state 0 0 0) l))
 
-module _ (N : ℕ) (x : Place) (S : List State) where
+module _ (N : ℕ) (x : Target) (S : List State) where
   -- those of the first i states, added
   abbrev pub gathered : ℕ → List State
   gathered i = add (flatMap (successors N x) (take i S)) []
@@ -198,12 +199,12 @@ module _ (N : ℕ) (x : Place) (S : List State) where
       sym (add-append (flatMap (successors N x) (take i S)) (successors N x s) [])
       ∙ ap (λ (U : List State). add U []) (sym (flat-snoc (successors N x) (take i S) s) ∙ ap (flatMap (successors N x)) (take-next S i s l e))
 
-  pub gathered-room : (i n : ℕ) → n ≡ length (gathered i) → Every (Workable N) S → N ≤ 16 → n ≤ i * 17
+  pub gathered-room : (i n : ℕ) → n ≡ length (gathered i) → Every (Workable N x) S → N ≤ 16 → n ≤ i * 17
   gathered-room i n e h few =
       omega (
         arith,
         length-add (flatMap (successors N x) (take i S)) [],
-        length-access N x (take i S) (every-take (λ s. size (s .mask) ≤ N) i S (every-weaker (Workable N) (λ s. size (s .mask) ≤ N) (λ s p. p .2) S h)),
+        length-access N x (take i S) (every-take (λ s. size (atRisk x (s .mask)) ≤ N) i S (every-weaker (Workable N x) (λ s. size (atRisk x (s .mask)) ≤ N) (λ s p. p .2) S h)),
         mul-le-mul short (suc-le-suc few),
       )
     where
@@ -233,5 +234,5 @@ module _ (N : ℕ) (x : Place) (S : List State) where
   unfolding accessAside
   aside-all a m l = ap (λ (U : List State). more a (sumOver (leftOver N x) U)) (take-all m S l)
 
-pub workable-at : (N : ℕ) (S : List State) → Every (Workable N) S → (i : ℕ) → Workable N (stateAt S i)
-workable-at N S h i = every-at (Workable N) (state 0 0 0) (omega arith, omega arith, omega (arith, size-zero)) i S h
+pub workable-at : (N : ℕ) (x : Target) (S : List State) → Every (Workable N x) S → (i : ℕ) → Workable N x (stateAt S i)
+workable-at N x S h i = every-at (Workable N x) (state 0 0 0) (omega arith, omega arith, omega (arith, size-sub _ 0 (risk-sub x 0), size-zero)) i S h

@@ -1,13 +1,14 @@
 -- A graph: the edges into a node, the tables that its predecessors left in their slots, and one node after the other.
 use mathlib.Core.Path.{_≡_, refl, sym, ap, ap₂, _∙_, subst}
-use mathlib.Core.Bool.{Bool, true, false, cond, _||_, true≢false}
+use mathlib.Core.Bool.{Bool, true, false, cond}
 use mathlib.Core.List.{List, [], _∷_, _++_}
 use Prim.Native.Nat.{ℕ, zero, suc, _+_, _-_, _*_, _≤_, _<_}
 use native.Mathlib.Omega.{arith}
 use lib.Dec.{eqb}
 use lib.ListN.{length, getD, set, take, drop, replicate, length-drop, length-take}
 use lib.Seq.{paste, take-take}
-use borrow.Author.Tests.{eq-eqb, ne-eqb, eqb-true}
+use borrow.Author.Tests.{eq-eqb, ne-eqb}
+use Rattle.rules.specs.declared.Cache.{Cache}
 use Rattle.rules.specs.declared.State.{State}
 use Rattle.rules.specs.Units.{whole}
 use Rattle.rules.specs.Contents.{among}
@@ -16,8 +17,9 @@ use Rattle.rules.specs.Shape.{Every, Shaped, Table}
 use Rattle.rules.specs.Fold.{folded}
 use Rattle.rules.specs.Join.{join}
 use Rattle.rules.specs.Run.{run}
-use Rattle.rules.specs.Input.{Input, nodes, offset, runOf, edgesOf, predecessors}
+use Rattle.rules.specs.Input.{Input, cache, nodes, offset, runOf, edgesOf, predecessors}
 use Rattle.rules.specs.Graph.{Worked, tableAt, joinAll, enter, node, worked}
+use Rattle.rules.proofs.Lookup.{among-every}
 use Rattle.rules.proofs.Refusals.{Checked, predecessor-lower}
 use Rattle.rules.proofs.Run.{table-wider, table-run}
 use Rattle.rules.proofs.Graph.{nodeTable, table-stays, first-and-others, table-enter, aside-enter, aside-worked, run-within, run-long, every-node}
@@ -154,22 +156,14 @@ module _ (K j a₀ : ℕ) (T₀ : List State) where
 
 -- ---- one node
 
-among-every : (P : ℕ → Type 0) (ps : List ℕ) → Every P ps → (p : ℕ) → among ps p ≡ true → P p
-among-every P [] h p e = absurd (true≢false (sym e))
-among-every P (q ∷ ps) h p e = go (eqb q p) refl e (among-every P ps (h .1) p)
-  where
-    go : (b : Bool) → eqb q p ≡ b → (b || among ps p) ≡ true → (among ps p ≡ true → P p) → P p
-    go true d e rest = subst P (eqb-true q p d) (h .0)
-    go false d e rest = rest e
-
 every-among : (P : ℕ → Type 0) (ps : List ℕ) → ((p : ℕ) → among ps p ≡ true → P p) → Every P ps
 every-among P [] h = tt
 every-among P (q ∷ ps) h = let (a, b) = first-and-others P q ps h in (a, every-among P ps b)
 
-module _ (N k K M j a : ℕ) (es ws : List ℕ) (s : Startable N k K M j a es ws) where
+module _ (c : Cache) (ts : List ℕ) (K M j a : ℕ) (es ws : List ℕ) (s : Startable c ts K M j a es ws) where
   -- what it starts from can be worked on
   pub entered-ready : (n a′ : ℕ) (ws₁ : List ℕ) → length ws₁ ≡ length ws
-      → InPlace (enter K (workedIn j a (tableOf ws)) (predecessors (edgesOf es) j)) (j * 64) n a′ (tableOf ws) (tableOf ws₁) → Ready N k K M (j * 64) n a′ ws₁
+      → InPlace (enter K (workedIn j a (tableOf ws)) (predecessors (edgesOf es) j)) (j * 64) n a′ (tableOf ws) (tableOf ws₁) → Ready c ts K M (j * 64) n a′ ws₁
   entered-ready n a′ ws₁ e g =
       record {
         ranges = s .ranges;
@@ -180,51 +174,52 @@ module _ (N k K M j a : ℕ) (es ws : List ℕ) (s : Startable N k K M j a es ws
         table = rw (g .stands .table) t;
       }
     where
-      left : (p : ℕ) → among (predecessors (edgesOf es) j) p ≡ true → Table N k K M (tableAt (workedIn j a (tableOf ws)) p)
-      left p e = let l = among-every (λ p. p < j) (predecessors (edgesOf es) j) (s .lower) p e in rw (tablesIn-at j (tableOf ws) p l) (s .tables p l)
+      left : (p : ℕ) → among (predecessors (edgesOf es) j) p ≡ true → Table (c .ways) (c .sets) ts K M (tableAt (workedIn j a (tableOf ws)) p)
+      left p e = let l = among-every (λ p. p < j) (predecessors (edgesOf es) j) p e (s .lower) in rw (tablesIn-at j (tableOf ws) p l) (s .tables p l)
 
-      t : Table N k K M (enter K (workedIn j a (tableOf ws)) (predecessors (edgesOf es) j) .table)
-      t = table-enter N k K (s .ranges .some-ways) (s .ranges .some-states) M (workedIn j a (tableOf ws)) (predecessors (edgesOf es) j) left
+      t : Table (c .ways) (c .sets) ts K M (enter K (workedIn j a (tableOf ws)) (predecessors (edgesOf es) j) .table)
+      t = table-enter (c .ways) (c .sets) ts K (s .ranges .some-ways) (s .ranges .some-states) M (workedIn j a (tableOf ws)) (predecessors (edgesOf es) j) left
 
 -- its run leaves a table
-module _ (N K p n a : ℕ) (ts bs ws : List ℕ) (short : length bs ≤ 4096) (r : Ready N (length ts) K (4096 - length bs) p n a ws) where
-  node-table : Table N (length ts) K 4096 (run N K ts bs (workAt p n a ws) .table)
+module _ (c : Cache) (ts : List ℕ) (K p n a : ℕ) (bs ws : List ℕ) (short : length bs ≤ 4096) (r : Ready c ts K (4096 - length bs) p n a ws) where
+  node-table : Table (c .ways) (c .sets) ts K 4096 (run (c .ways) (c .sets) K ts bs (workAt p n a ws) .table)
   node-table =
-      table-wider N (length ts) K (length bs + (4096 - length bs)) 4096 _ (omega arith)
-      (table-run N K ts (r .ranges .some-ways) (r .ranges .some-states) (4096 - length bs) bs (workAt p n a ws) (r .table))
+      table-wider (c .ways) (c .sets) ts K (length bs + (4096 - length bs)) 4096 _ (omega arith)
+      (table-run (c .ways) (c .sets) K ts (r .ranges .some-ways) (r .ranges .some-states) (4096 - length bs) bs (workAt p n a ws) (r .table))
 
-  pub node-few : (m b : ℕ) (T : List State) → InPlace (run N K ts bs (workAt p n a ws)) p m b (tableOf ws) T → m ≤ 64
+  pub node-few : (m b : ℕ) (T : List State) → InPlace (run (c .ways) (c .sets) K ts bs (workAt p n a ws)) p m b (tableOf ws) T → m ≤ 64
   node-few m b T g = omega (arith, g .stands .count, node-table .short, r .ranges .few-states)
 
-some-units : (N k M : ℕ) (T : List State) → Every (Shaped N k M) T → Every (λ s. 1 ≤ unitsOf s) T
-some-units N k M [] h = tt
-some-units N k M (s ∷ T) h = (h .0 .1, some-units N k M T (h .1))
+some-units : (N Z : ℕ) (ts : List ℕ) (M : ℕ) (T : List State) → Every (Shaped N Z ts M) T → Every (λ s. 1 ≤ unitsOf s) T
+some-units N Z ts M [] h = tt
+some-units N Z ts M (s ∷ T) h = (h .0 .1, some-units N Z ts M T (h .1))
 
 -- which is found again in its slot
-pub node-done : (N K j a n a₁ m b : ℕ) (ts bs es ws ws₁ ws₂ : List ℕ) (T : List State) → length bs ≤ 4096 → Startable N (length ts) K (4096 - length bs) j a es ws
+pub node-done : (c : Cache) (ts : List ℕ) (K j a n a₁ m b : ℕ) (bs es ws ws₁ ws₂ : List ℕ) (T : List State) → length bs ≤ 4096
+    → Startable c ts K (4096 - length bs) j a es ws
     → length ws₁ ≡ length ws → InPlace (enter K (workedIn j a (tableOf ws)) (predecessors (edgesOf es) j)) (j * 64) n a₁ (tableOf ws) (tableOf ws₁)
-    → length ws₂ ≡ length ws₁ → InPlace (run N K ts bs (workAt (j * 64) n a₁ ws₁)) (j * 64) m b (tableOf ws₁) (tableOf ws₂)
+    → length ws₂ ≡ length ws₁ → InPlace (run (c .ways) (c .sets) K ts bs (workAt (j * 64) n a₁ ws₁)) (j * 64) m b (tableOf ws₁) (tableOf ws₂)
     → T ≡ paste (tableOf ws₂) (j * 64 + m) (replicate 64 (state 0 0 0)) (64 - m)
-    → NodeDone (run N K ts bs (enter K (workedIn j a (tableOf ws)) (predecessors (edgesOf es) j))) j b (tableOf ws) T
-node-done N K j a n a₁ m b ts bs es ws ws₁ ws₂ T short s e g f h q =
+    → NodeDone (run (c .ways) (c .sets) K ts bs (enter K (workedIn j a (tableOf ws)) (predecessors (edgesOf es) j))) j b (tableOf ws) T
+node-done c ts K j a n a₁ m b bs es ws ws₁ ws₂ T short s e g f h q =
     rw (← stands-work _ (j * 64) n a₁ ws₁ (tableOf ws) g)
     record {
-      table = seal-table (tableOf ws₂) T X j m room few (h .stands .count) (h .stands .table) q (some-units N (length ts) 4096 X (t .shaped));
+      table = seal-table (tableOf ws₂) T X j m room few (h .stands .count) (h .stands .table) q (some-units (c .ways) (c .sets) ts 4096 X (t .shaped));
       aside = h .stands .aside;
       before = seal-before (tableOf ws₂) T X j m room few (h .stands .count) (h .stands .table) q ∙ h .before ∙ g .before;
     }
   where
     X : List State
-    X = run N K ts bs (workAt (j * 64) n a₁ ws₁) .table
+    X = run (c .ways) (c .sets) K ts bs (workAt (j * 64) n a₁ ws₁) .table
 
-    r : Ready N (length ts) K (4096 - length bs) (j * 64) n a₁ ws₁
-    r = entered-ready N (length ts) K (4096 - length bs) j a es ws s n a₁ ws₁ e g
+    r : Ready c ts K (4096 - length bs) (j * 64) n a₁ ws₁
+    r = entered-ready c ts K (4096 - length bs) j a es ws s n a₁ ws₁ e g
 
-    t : Table N (length ts) K 4096 X
-    t = node-table N K (j * 64) n a₁ ts bs ws₁ short r
+    t : Table (c .ways) (c .sets) ts K 4096 X
+    t = node-table c ts K (j * 64) n a₁ bs ws₁ short r
 
     few : m ≤ 64
-    few = node-few N K (j * 64) n a₁ ts bs ws₁ short r m b (tableOf ws₂) h
+    few = node-few c ts K (j * 64) n a₁ bs ws₁ short r m b (tableOf ws₂) h
 
     room : j * 64 + 64 ≤ length (tableOf ws₂)
     room = omega (arith, s .node, fits-table ws₂ 5184 (omega (arith, f, e, s .room)))
@@ -250,16 +245,16 @@ module _ (i : Input) (ok : Checked i) (j : ℕ) (l : j < nodes i) where
 
   -- it can be worked where the nodes before it are
   pub node-startable : (a m : ℕ) (ws : List ℕ) → workedIn j a (tableOf ws) ≡ worked i j → 15552 ≤ length ws → m ≡ length (runOf i j)
-      → Startable (i .ways) (length (i .tracked)) (i .limit) (4096 - m) j a (i .edges) ws
+      → Startable (cache (i .sets) (i .ways)) (i .tracked) (i .limit) (4096 - m) j a (i .edges) ws
   node-startable a m ws d room e =
       record {
-        ranges = record { some-ways = ok .some-ways; few-ways = ok .few-ways; few-tracked = ok .few-tracked; some-states = ok .some-states; few-states = ok .few-states };
+        ranges = record { some-ways = ok .some-ways; few-ways = ok .few-ways; known-sets = ok .known-sets; few-tracked = ok .few-tracked; some-states = ok .some-states; few-states = ok .few-states };
         room = room;
         node = omega (arith, ok .few-nodes, l);
         aside = subst (λ (d : Worked). d .aside ≤ whole) (sym d) (aside-worked i (ok .some-ways) (ok .some-states) j);
         lower = every-among (λ p. p < j) (predecessors (edgesOf (i .edges)) j) (λ p e. predecessor-lower i ok p j e .0);
         tables = λ p k. rw (tables p k)
-            (table-wider (i .ways) (length (i .tracked)) (i .limit) (offset (i .lengths) j) (4096 - m) _ (omega (arith, e, run-long i ok j l, run-within i ok j l, ok .few-accesses))
+            (table-wider (i .ways) (i .sets) (i .tracked) (i .limit) (offset (i .lengths) j) (4096 - m) _ (omega (arith, e, run-long i ok j l, run-within i ok j l, ok .few-accesses))
             (every-node i ok j (omega arith) p k));
       }
     where
@@ -268,11 +263,11 @@ module _ (i : Input) (ok : Checked i) (j : ℕ) (l : j < nodes i) where
 
   -- and then one more is
   pub nodes-next : (a b : ℕ) (T T′ : List State) → workedIn j a T ≡ worked i j
-      → NodeDone (run (i .ways) (i .limit) (i .tracked) (runOf i j) (enter (i .limit) (workedIn j a T) (predecessors (edgesOf (i .edges)) j))) j b T T′
+      → NodeDone (run (i .ways) (i .sets) (i .limit) (i .tracked) (runOf i j) (enter (i .limit) (workedIn j a T) (predecessors (edgesOf (i .edges)) j))) j b T T′
       → workedIn (suc j) b T′ ≡ worked i (suc j)
   unfolding worked node tablesIn
   nodes-next a b T T′ d h =
       ap₂ (λ (X : List (List State)) (b : ℕ). record { tables = X; aside = b })
       (ap₂ (λ (X : List (List State)) (Y : List State). X ++ (Y ∷ [])) (tablesIn-kept j (j * 64) T T′ (omega arith) (h .before)) (h .table)) (h .aside)
-      ∙ ap (λ (d : Worked). let w = run (i .ways) (i .limit) (i .tracked) (runOf i j) (enter (i .limit) d (predecessors (edgesOf (i .edges)) j)) in
+      ∙ ap (λ (d : Worked). let w = run (i .ways) (i .sets) (i .limit) (i .tracked) (runOf i j) (enter (i .limit) d (predecessors (edgesOf (i .edges)) j)) in
       record { tables = d .tables ++ (w .table ∷ []); aside = w .aside }) d

@@ -1,23 +1,28 @@
--- Masks as 64-bit numbers: a shifted 1, and the count of set bits. Looking up a block from the front of the list on.
-use mathlib.Core.Path.{_≡_, refl, sym, ap, _∙_}
-use mathlib.Core.Bool.{cond}
+-- Masks as 64-bit numbers: a shifted 1, and the count of set bits. Looking up a block from the front of the list on, and the mask of a set
+-- from its end.
+use mathlib.Core.Path.{_≡_, refl, sym, ap, ap₂, _∙_}
+use mathlib.Core.Bool.{true, cond}
 use mathlib.Core.List.{List}
-use Prim.Native.Nat.{ℕ, zero, suc, _+_, _*_, _/_, _%_, _^_, _≤_, _<_}
-use native.Mathlib.Nat.{one-mul, zero-add, add-zero}
+use Prim.Native.Nat.{ℕ, zero, suc, _+_, _-_, _*_, _/_, _%_, _^_, _≤_, _<_}
+use native.Mathlib.Nat.{one-mul, zero-add, add-zero, le-refl, lt-of-lt-of-le}
 use native.Mathlib.Numerals.{add-one}
 use native.Mathlib.Omega.{arith}
+use lib.Bits.{bitAnd, and-mask}
 use lib.Count.{ones, ones-step, ones-le}
 use lib.Dec.{lit<, eqb}
-use lib.ListN.{length, getD, drop, drop-of-length-le}
-use lib.Pow.{shl-exact, field, mod-mod-pow}
+use lib.ListN.{length, getD, drop, length-drop, drop-of-length-le}
+use lib.Pow.{shl-exact, field, mod-mod-pow, pow-mono}
 use lib.Seq.{drop-cons}
 use borrow.Author.Tests.{eq-eqb, ne-eqb}
 use Rattle.basics.proofs.Sums.{sumOn}
 use Rattle.rules.specs.declared.Place.{Place}
 use Rattle.rules.specs.declared.Place.the-variants.{At as at, Untracked as untracked}
-use Rattle.rules.specs.Contents.{bit, size, find, further}
+use Rattle.rules.specs.Contents.{among, bit, size, find, further, maskOf, ofSet, targetOf}
+use Rattle.rules.specs.Refusals.{setCounts}
 use Rattle.rules.proofs.Bits.{bit-low, bit-rest}
 use Rattle.rules.proofs.Contents.{size-sum, sixteen-places}
+use Rattle.rules.proofs.Lookup.{among-every}
+use Rattle.rules.proofs.Sets.{mask-lt}
 
 pub one-shifted : (i : ℕ) → i < 64 → (1 * 2 ^ i) % 2 ^ 64 ≡ 2 ^ i
 one-shifted i h = shl-exact 1 i 64 (lit< tt) (omega arith) ∙ one-mul (2 ^ i)
@@ -80,3 +85,42 @@ module _ (b : ℕ) (ts : List ℕ) (i : ℕ) (x : Place) (e : x ≡ onBy i (find
   pub find-none : length ts ≤ i → untracked ≡ x
   unfolding find
   find-none l = sym (e ∙ rw (drop-of-length-le ts l))
+
+-- ---- the blocks of a set
+
+-- a set count is a power of two, so that a number's low bits are what is left of it
+pub low-bits : (Z n : ℕ) → among setCounts Z ≡ true → bitAnd n (Z - 1) ≡ n % Z
+low-bits Z n h =
+    among-every (λ m. bitAnd n (m - 1) ≡ n % m) setCounts Z h
+    (and-mask n 0, (and-mask n 1, (and-mask n 2, (and-mask n 3, (and-mask n 4, tt)))))
+
+-- the mask of the blocks behind place i
+abbrev pub setFrom : ℕ → List ℕ → ℕ → ℕ → ℕ
+setFrom Z ts j i = ofSet Z (drop i ts) j
+
+module _ (Z : ℕ) (ts : List ℕ) (j : ℕ) where
+  pub set-end : 0 ≡ setFrom Z ts j (length ts)
+  unfolding ofSet maskOf
+  set-end = rw (drop-of-length-le ts (le-refl (length ts)))
+
+  -- one block more, the one before them
+  pub set-next : (i m d : ℕ) → 0 < i → i ≤ length ts → m ≡ setFrom Z ts j i → d ≡ cond (eqb (getD ts (i - 1) 0 % Z) j) 1 0 → m * 2 + d ≡ setFrom Z ts j (i - 1)
+  unfolding ofSet maskOf
+  set-next i m d some l e q =
+      ap₂ (λ (n k : ℕ). n * 2 + k) (e ∙ ap (setFrom Z ts j) (sym next)) q
+      ∙ sym (ap (λ (us : List ℕ). ofSet Z us j) (drop-cons ts (i - 1) 0 (omega arith)))
+    where
+      next : suc (i - 1) ≡ i
+      next = omega arith
+
+  pub set-small : (i : ℕ) → length ts ≤ 16 → setFrom Z ts j i < 65536
+  unfolding ofSet
+  set-small i few = lt-of-lt-of-le (mask-lt (λ t. eqb (t % Z) j) (drop i ts)) (pow-mono {j = 16} short)
+    where
+      short : length (drop i ts) ≤ 16
+      short = omega (arith, length-drop i ts)
+
+-- what an access is after, found out in parts
+pub aimed-at : (Z : ℕ) (ts : List ℕ) (b : ℕ) (x : Place) (j m : ℕ) → x ≡ find ts b → j ≡ b % Z → m ≡ ofSet Z ts j → record { place = x; set = j; mates = m } ≡ targetOf Z ts b
+unfolding targetOf
+aimed-at Z ts b x j m p q r = rw (r, q, p) refl

@@ -6,23 +6,25 @@ use Prim.Native.Nat.{ℕ, suc, _+_, _≤_, _<_}
 use native.Mathlib.Omega.{arith}
 use lib.ListN.{length, take, drop, getD, length-drop, drop-of-length-le}
 use lib.Seq.{paste, drop-cons}
-use Rattle.rules.specs.declared.Place.{Place}
+use Rattle.rules.specs.declared.Cache.{Cache}
+use Rattle.rules.specs.declared.Target.{Target}
 use Rattle.rules.specs.declared.State.{State}
 use Rattle.rules.specs.Units.{whole, more}
-use Rattle.rules.specs.Contents.{find}
+use Rattle.rules.specs.Contents.{targetOf}
 use Rattle.rules.specs.Table.{rising, total, unitsOf, Work}
-use Rattle.rules.specs.Shape.{Every, Listed, Shaped, Table}
+use Rattle.rules.specs.Shape.{Every, Listed, Aimed, Shaped, Table}
 use Rattle.rules.specs.Step.{access, accessAside}
 use Rattle.rules.specs.Fold.{folded}
 use Rattle.rules.specs.Join.{join}
 use Rattle.rules.specs.Run.{advance, run}
 use Rattle.rules.proofs.Table.{rising-is}
 use Rattle.rules.proofs.Join.{rising-join, length-join}
-use Rattle.rules.proofs.Run.{rising-access, access-length, table-advance, table-wider, advance-aside, find-listed}
+use Rattle.rules.proofs.Run.{rising-access, access-length, table-advance, table-wider, advance-aside}
+use Rattle.rules.proofs.Sets.{aimed, room-risk}
 use Rattle.words.specs.Tables.{tableOf}
 use Rattle.estimate.specs.Rooms.{InScratch, Stands, InPlace}
 use Rattle.estimate.specs.Following.{Workable}
-use Rattle.estimate.specs.Working.{workAt, Ready}
+use Rattle.estimate.specs.Working.{workAt, InRange, Ready}
 use Rattle.words.proofs.Tables.{fits-table}
 use Rattle.estimate.proofs.Scratch.{stretch-kept, stretch-long}
 use Rattle.estimate.proofs.Nodes.{paste-there, paste-take}
@@ -52,27 +54,35 @@ unfolding total
 unit-most [] n h = tt
 unit-most (s ∷ T) n h = (omega arith, unit-most T n (omega arith))
 
-workables : (N k M : ℕ) (T : List State) → M ≤ 4095 → Every (Shaped N k M) T → Every (λ s. unitsOf s ≤ whole) T → Every (Workable N) T
-workables N k M [] l h u = tt
-workables N k M (s ∷ T) l h u = ((omega (arith, h .0 .0 .few), u .0, h .0 .0 .small), workables N k M T l (h .1) (u .1))
+module _ (N Z : ℕ) (ts : List ℕ) (x : Target) (aim : Aimed Z ts x) where
+  workables : (M : ℕ) (T : List State) → M ≤ 4095 → Every (Shaped N Z ts M) T → Every (λ s. unitsOf s ≤ whole) T → Every (Workable N x) T
+  workables M [] l h u = tt
+  workables M (s ∷ T) l h u =
+      ((omega (arith, h .0 .0 .few), u .0, room-risk N Z ts x aim (s .mask) (h .0 .0 .small)), workables M T l (h .1) (u .1))
 
-pub workable : (N k K M : ℕ) (T : List State) → M ≤ 4095 → Table N k K M T → Every (Workable N) T
-workable N k K M T l t = workables N k M T l (t .shaped) (unit-most T whole (rw (t .full) (omega arith)))
+  pub workable : (K M : ℕ) (T : List State) → M ≤ 4095 → Table N Z ts K M T → Every (Workable N x) T
+  workable K M T l t = workables M T l (t .shaped) (unit-most T whole (rw (t .full) (omega arith)))
 
-pub listed-sixteen : (ts : List ℕ) (b : ℕ) (x : Place) → length ts ≤ 16 → x ≡ find ts b → Listed 16 x
-listed-sixteen ts b x few e i p = omega (arith, few, find-listed ts b i (sym e ∙ p))
+  pub listed-sixteen : length ts ≤ 16 → Listed 16 (x .place)
+  listed-sixteen few i p = omega (arith, few, aim .placed i p)
+
+-- what is found out about a block is what an access to it is after
+pub aimed-so : (Z : ℕ) (ts : List ℕ) (b : ℕ) (x : Target) → x ≡ targetOf Z ts b → Aimed Z ts x
+aimed-so Z ts b x e = rw e (aimed Z ts b)
 
 -- what is gathered can be settled
-pub gathered-fits : (N k K M : ℕ) (x : Place) (T : List State) (r : ℕ) (T₀ T₁ : List State) → 1 ≤ N → N ≤ 16 → 1 ≤ K → K ≤ 64 → Table N k K M T
-    → InScratch (access N x T) r T₀ T₁ → (r ≤ 1088) × (rising (take r (drop 4096 T₁)) ≡ true)
-gathered-fits N k K M x T r T₀ T₁ some few room most t g =
-    (omega (arith, g .count, access-length N k K M x T few t), rw (g .table) (rising-is (access N x T) (rising-access N k K some room x T)))
+pub gathered-fits : (c : Cache) (ts : List ℕ) (K M : ℕ) (x : Target) (T : List State) (r : ℕ) (T₀ T₁ : List State) → InRange c ts K → Aimed (c .sets) ts x
+    → Table (c .ways) (c .sets) ts K M T → InScratch (access (c .ways) x T) r T₀ T₁ → (r ≤ 1088) × (rising (take r (drop 4096 T₁)) ≡ true)
+gathered-fits c ts K M x T r T₀ T₁ ranges aim t g = (
+  omega (arith, g .count, access-length (c .ways) (c .sets) ts K M x T (ranges .few-ways) aim t, ranges .few-states),
+  rw (g .table) (rising-is (access (c .ways) x T) (rising-access (c .ways) (c .sets) ts K (ranges .some-ways) (ranges .some-states) x T)),
+)
 
 pub joined-fits : (S T : List State) (r : ℕ) (T₀ T₁ : List State) → length S ≤ 64 → length T ≤ 64
     → InScratch (join S T) r T₀ T₁ → (r ≤ 1088) × (rising (take r (drop 4096 T₁)) ≡ true)
 joined-fits S T r T₀ T₁ l m g = (omega (arith, g .count, length-join S T), rw (g .table) (rising-is (join S T) (rising-join S T)))
 
-pub advanced : (N K : ℕ) (x y : Place) (w : Work) (at r a m b : ℕ) (T T₁ T₂ : List State) → x ≡ y → at ≤ 4096 → InScratch (access N x (w .table)) r T T₁
+pub advanced : (N K : ℕ) (x y : Target) (w : Work) (at r a m b : ℕ) (T T₁ T₂ : List State) → x ≡ y → at ≤ 4096 → InScratch (access N x (w .table)) r T T₁
     → a ≡ more (w .aside) (accessAside N x (w .table))
     → InPlace (folded K (record { table = take r (drop 4096 T₁); aside = a })) at m b T₁ T₂ → InPlace (advance N K y w) at m b T T₂
 unfolding advance
@@ -81,56 +91,57 @@ advanced N K x y w at r a m b T T₁ T₂ p low g q h = rw (← p) (settled-from
 -- ---- accesses one after the other
 
 -- as far as access i, from w
-abbrev pub Ran : ℕ → ℕ → List ℕ → List ℕ → ℕ → Work → Work → Type 0
-Ran N K ts bs i v w = run N K ts (drop i bs) v ≡ run N K ts bs w
+module _ (N Z K : ℕ) (ts bs : List ℕ) where
+  abbrev pub Ran : ℕ → Work → Work → Type 0
+  Ran i v w = run N Z K ts (drop i bs) v ≡ run N Z K ts bs w
 
-pub ran-next : (N K : ℕ) (ts bs : List ℕ) (i : ℕ) (v w : Work) (b : ℕ) → i < length bs → b ≡ getD bs i 0 → Ran N K ts bs i v w
-    → Ran N K ts bs (suc i) (advance N K (find ts b) v) w
-unfolding run
-ran-next N K ts bs i v w b l e h = rw e (sym (ap (λ (cs : List ℕ). run N K ts cs v) (drop-cons bs i 0 l))) ∙ h
+  pub ran-next : (i : ℕ) (v w : Work) (b : ℕ) → i < length bs → b ≡ getD bs i 0 → Ran i v w → Ran (suc i) (advance N K (targetOf Z ts b) v) w
+  unfolding run
+  ran-next i v w b l e h = rw e (sym (ap (λ (cs : List ℕ). run N Z K ts cs v) (drop-cons bs i 0 l))) ∙ h
 
-ran-all : (N K : ℕ) (ts bs : List ℕ) (i : ℕ) (v w : Work) → length bs ≤ i → Ran N K ts bs i v w → v ≡ run N K ts bs w
-unfolding run
-ran-all N K ts bs i v w l h = sym (ap (λ (cs : List ℕ). run N K ts cs v) (drop-of-length-le bs {i = i} l)) ∙ h
+  ran-all : (i : ℕ) (v w : Work) → length bs ≤ i → Ran i v w → v ≡ run N Z K ts bs w
+  unfolding run
+  ran-all i v w l h = sym (ap (λ (cs : List ℕ). run N Z K ts cs v) (drop-of-length-le bs {i = i} l)) ∙ h
 
 -- the work at a place is what stands there
 pub stands-work : (w : Work) (at n a : ℕ) (ws : List ℕ) (T : List State) → InPlace w at n a T (tableOf ws) → workAt at n a ws ≡ w
 stands-work w at n a ws T g = rw (g .stands .table, g .stands .aside) refl
 
 -- a table that can be worked on still can where more misses are allowed, and after an access
-pub ready-wider : (N k K M L at n a : ℕ) (ws : List ℕ) → M ≤ L → Ready N k K M at n a ws → Ready N k K L at n a ws
-ready-wider N k K M L at n a ws l r =
+pub ready-wider : (c : Cache) (ts : List ℕ) (K M L at n a : ℕ) (ws : List ℕ) → M ≤ L → Ready c ts K M at n a ws → Ready c ts K L at n a ws
+ready-wider c ts K M L at n a ws l r =
     record {
       ranges = r .ranges;
       room = r .room;
       slot = r .slot;
       count = r .count;
       aside = r .aside;
-      table = table-wider N k K M L (workAt at n a ws .table) l (r .table);
+      table = table-wider (c .ways) (c .sets) ts K M L (workAt at n a ws .table) l (r .table);
     }
 
-pub ready-next : (N K L M at n a n′ a′ : ℕ) (ts : List ℕ) (b : ℕ) (ws ws′ : List ℕ) → suc L ≤ M → length ws′ ≡ length ws → Ready N (length ts) K L at n a ws
-    → InPlace (advance N K (find ts b) (workAt at n a ws)) at n′ a′ (tableOf ws) (tableOf ws′) → Ready N (length ts) K M at n′ a′ ws′
-ready-next N K L M at n a n′ a′ ts b ws ws′ l e r g =
+pub ready-next : (c : Cache) (ts : List ℕ) (K L M at n a n′ a′ : ℕ) (b : ℕ) (ws ws′ : List ℕ) → suc L ≤ M → length ws′ ≡ length ws → Ready c ts K L at n a ws
+    → InPlace (advance (c .ways) K (targetOf (c .sets) ts b) (workAt at n a ws)) at n′ a′ (tableOf ws) (tableOf ws′) → Ready c ts K M at n′ a′ ws′
+ready-next c ts K L M at n a n′ a′ b ws ws′ l e r g =
     record {
       ranges = r .ranges;
       room = rw e (r .room);
       slot = r .slot;
       count = omega (arith, g .stands .count, t .short, r .ranges .few-states);
-      aside = rw (g .stands .aside) (advance-aside N (length ts) K (r .ranges .some-ways) (r .ranges .some-states) (find ts b) (workAt at n a ws));
+      aside = rw (g .stands .aside) (advance-aside (c .ways) (c .sets) ts K (r .ranges .some-ways) (r .ranges .some-states) (targetOf (c .sets) ts b) (workAt at n a ws));
       table = rw (g .stands .table) t;
     }
   where
-    t : Table N (length ts) K M (advance N K (find ts b) (workAt at n a ws) .table)
+    t : Table (c .ways) (c .sets) ts K M (advance (c .ways) K (targetOf (c .sets) ts b) (workAt at n a ws) .table)
     t =
-        table-wider N (length ts) K (suc L) M _ l
-        (table-advance N (length ts) K (r .ranges .some-ways) (r .ranges .some-states) L (find ts b) (workAt at n a ws) (find-listed ts b) (r .table))
+        table-wider (c .ways) (c .sets) ts K (suc L) M _ l
+        (table-advance (c .ways) (c .sets) ts K (r .ranges .some-ways) (r .ranges .some-states) L (targetOf (c .sets) ts b) (workAt at n a ws) (aimed (c .sets) ts b)
+        (r .table))
 
 -- when no access is to come, the table stands where it is to
-pub ran-stands : (N K M at n a i : ℕ) (ts bs ws : List ℕ) (w : Work) (T : List State) → length bs ≤ i → Ready N (length ts) K M at n a ws
-    → take at (tableOf ws) ≡ take at T → Ran N K ts bs i (workAt at n a ws) w → InPlace (run N K ts bs w) at n a T (tableOf ws)
-ran-stands N K M at n a i ts bs ws w T l r e h =
-    rw (← ran-all N K ts bs i (workAt at n a ws) w l h)
+pub ran-stands : (c : Cache) (ts : List ℕ) (K M at n a i : ℕ) (bs ws : List ℕ) (w : Work) (T : List State) → length bs ≤ i → Ready c ts K M at n a ws
+    → take at (tableOf ws) ≡ take at T → Ran (c .ways) (c .sets) K ts bs i (workAt at n a ws) w → InPlace (run (c .ways) (c .sets) K ts bs w) at n a T (tableOf ws)
+ran-stands c ts K M at n a i bs ws w T l r e h =
+    rw (← ran-all (c .ways) (c .sets) K ts bs i (workAt at n a ws) w l h)
     record {
       stands = record { count = sym (stretch-long at n (tableOf ws) (omega (arith, r .slot, r .count, fits-table ws 5184 (r .room)))); table = refl; aside = refl };
       before = e;

@@ -2,6 +2,7 @@
 use mathlib.Core.List.{List, _++_}
 use Prim.Native.Nat.{ℕ, _-_, _*_, _/_}
 use lib.ListN.{length, replicate}
+use Rattle.rules.specs.declared.Cache.{Cache}
 use Rattle.rules.specs.declared.State.{State}
 use Rattle.rules.specs.declared.Verdict.{Verdict}
 use Rattle.rules.specs.declared.Verdict.the-variants.{Accepted, Refused}
@@ -27,9 +28,9 @@ leaves Accepted i result work = record { answer = outcome i; result = written (f
 leaves (Refused r) i result work = record { answer = outcome i; result = result; work = work }
 
 -- what comes in, of two rooms with three words to a state
-abbrev pub handed : ℕ → ℕ → List ℕ → List ℕ → List ℕ → List ℕ → List ℕ → List ℕ → Input
-handed N K ts ns bs es result work = inputIn N K ts ns bs es (length result / 3) (length work / 3)
+abbrev pub handed : Cache → ℕ → List ℕ → List ℕ → List ℕ → List ℕ → List ℕ → List ℕ → Input
+handed c K ts ns bs es result work = inputIn c K ts ns bs es (length result / 3) (length work / 3)
 
--- N ways, at most K states, the tracked blocks ts, the run lengths ns, the accesses bs, the edges es, and the two rooms
-unfoldable pub analysed : ℕ → ℕ → List ℕ → List ℕ → List ℕ → List ℕ → List ℕ → List ℕ → After
-analysed N K ts ns bs es result work = let i = handed N K ts ns bs es result work in leaves (verdict i) i result work
+-- the cache c, at most K states, the tracked blocks ts, the run lengths ns, the accesses bs, the edges es, and the two rooms
+unfoldable pub analysed : Cache → ℕ → List ℕ → List ℕ → List ℕ → List ℕ → List ℕ → List ℕ → After
+analysed c K ts ns bs es result work = let i = handed c K ts ns bs es result work in leaves (verdict i) i result work

@@ -1,4 +1,6 @@
 // One access: the states that follow those of a table.
+use crate::contents::at_risk;
+use crate::contents::has_block;
 use crate::contents::has_place;
 use crate::contents::size_of;
 use crate::contents::with_block;
@@ -6,8 +8,8 @@ use crate::contents::without_place;
 use crate::memory::load;
 use crate::placing::add;
 use crate::states::Tally;
-use rules::Place;
 use rules::State;
+use rules::Target;
 use rules::Units;
 ghost use mathlib.Core.Path.{_≡_};
 ghost use mathlib.Core.Bool.{true};
@@ -25,103 +27,105 @@ ghost use Rattle.estimate.specs.Rooms.{InScratch};
 ghost use Rattle.estimate.specs.Following.{lostAt, Workable};
 
 // From `s`, one miss more: `mask` with the accessed block, and `units`.
-pub(crate) fn missed(s: State, x: Place, mask: u64, units: Units) -> State
-    requires { ⌜ Listed 16 x × (s .misses ≤ 4095) ⌝ }
+pub(crate) fn missed(s: State, x: Target, mask: u64, units: Units) -> State
+    requires { ⌜ Listed 16 (x .place) × (s .misses ≤ 4095) ⌝ }
     ensures { λ r. ⌜ r ≡ missedOf x s mask (units .0) ⌝ }
 {
+    let place = x.place;
     State {
-        mask: with_block(mask, x),
+        mask: with_block(mask, place),
         misses: s.misses + 1,
         units,
     }
 }
 
-// What a way that holds the block at place `at` makes of `s`, where `s` holds that block.
+// What a way that holds the block at place `at` makes of `s`, where that block is one of `risk`.
 pub(crate) fn lose_one(
     words: &mut [u64],
     n: usize,
     s: State,
-    x: Place,
+    x: Target,
+    risk: u64,
     part: Units,
     at: usize,
 ) -> usize
-    requires { ⌜ Listed 16 x × (s .misses ≤ 4095) × (at < 16) × (n * 3 + 3 ≤ length (now words)) × (rising (take n (tableOf (now words))) ≡ true) ⌝ }
-    ensures { λ r. ⌜ Added (lostAt x s (part .0) at) n r (tableOf (now (words .entry))) (tableOf (now (words .exit))) ⌝ }
+    requires { ⌜ Listed 16 (x .place) × (s .misses ≤ 4095) × (at < 16) × (n * 3 + 3 ≤ length (now words)) × (rising (take n (tableOf (now words))) ≡ true) ⌝ }
+    ensures { λ r. ⌜ Added (lostAt x s risk (part .0) at) n r (tableOf (now (words .entry))) (tableOf (now (words .exit))) ⌝ }
 {
-    if has_place(s.mask, at) {
+    if has_place(risk, at) {
         return add(words, n, missed(s, x, without_place(s.mask, at), part));
     }
     n
 }
 
-// Each block of `s` is lost in turn.
-pub(crate) fn lose_each(words: &mut [u64], n: usize, s: State, x: Place, part: Units) -> usize
-    requires { ⌜ Listed 16 x × (s .misses ≤ 4095) × ((n + 16) * 3 ≤ length (now words)) × (rising (take n (tableOf (now words))) ≡ true) ⌝ }
-    ensures { λ r. ⌜ Added (map (λ e. missedOf x s (without (s .mask) e) (part .0)) (held (s .mask))) n r (tableOf (now (words .entry))) (tableOf (now (words .exit))) ⌝ }
+// Each block of `risk` is lost in turn.
+pub(crate) fn lose_each(
+    words: &mut [u64],
+    n: usize,
+    s: State,
+    x: Target,
+    risk: u64,
+    part: Units,
+) -> usize
+    requires { ⌜ Listed 16 (x .place) × (s .misses ≤ 4095) × ((n + 16) * 3 ≤ length (now words)) × (rising (take n (tableOf (now words))) ≡ true) ⌝ }
+    ensures { λ r. ⌜ Added (map (λ e. missedOf x s (without (s .mask) e) (part .0)) (held risk)) n r (tableOf (now (words .entry))) (tableOf (now (words .exit))) ⌝ }
 {
     let mut m = n;
     let mut at: usize = 0;
     while at < 16 {
-        m = lose_one(words, m, s, x, part, at);
+        m = lose_one(words, m, s, x, risk, part, at);
         at += 1;
     }
     m
 }
 
-// `s` does not hold the block: each way has an equal part of its units, and what is left over goes to the block alone.
-pub(crate) fn miss(words: &mut [u64], n: usize, s: State, x: Place, ways: u64) -> usize
-    requires { ⌜ Listed 16 x × Workable ways s × (ways ≤ 16) × ((n + 17) * 3 ≤ length (now words)) × (rising (take n (tableOf (now words))) ≡ true) ⌝ }
+// `s` does not hold the block: each way of its set has an equal part of the units, and what is left over goes to the block alone.
+pub(crate) fn miss(words: &mut [u64], n: usize, s: State, x: Target, ways: u64) -> usize
+    requires { ⌜ Listed 16 (x .place) × Workable ways x s × (ways ≤ 16) × ((n + 17) * 3 ≤ length (now words)) × (rising (take n (tableOf (now words))) ≡ true) ⌝ }
     ensures { λ r. ⌜ Added (missOf ways x s) n r (tableOf (now (words .entry))) (tableOf (now (words .exit))) ⌝ }
 {
     let u = s.units;
     let share = u.split(ways);
     let part = share.part;
     let rest = share.rest;
-    let lost = lose_each(words, n, s, x, part);
-    let others = Units((ways - size_of(s.mask)) * part.0);
+    let risk = at_risk(s.mask, x);
+    let lost = lose_each(words, n, s, x, risk, part);
+    let others = Units((ways - size_of(risk)) * part.0);
     let kept = add(words, lost, missed(s, x, s.mask, others));
     add(words, kept, missed(s, x, 0, rest))
 }
 
-// The states that follow `s`: a hit leaves it as it is, and an untracked block is never a hit.
-pub(crate) fn follow(words: &mut [u64], n: usize, s: State, x: Place, ways: u64) -> usize
-    requires { ⌜ Listed 16 x × Workable ways s × (ways ≤ 16) × ((n + 17) * 3 ≤ length (now words)) × (rising (take n (tableOf (now words))) ≡ true) ⌝ }
+// The states that follow `s`: a hit leaves it as it is.
+pub(crate) fn follow(words: &mut [u64], n: usize, s: State, x: Target, ways: u64) -> usize
+    requires { ⌜ Listed 16 (x .place) × Workable ways x s × (ways ≤ 16) × ((n + 17) * 3 ≤ length (now words)) × (rising (take n (tableOf (now words))) ≡ true) ⌝ }
     ensures { λ r. ⌜ Added (successors ways x s) n r (tableOf (now (words .entry))) (tableOf (now (words .exit))) ⌝ }
 {
-    match x {
-        Place::At(i) => {
-            if has_place(s.mask, i) {
-                return add(words, n, s);
-            }
-            miss(words, n, s, x, ways)
-        }
-        Place::Untracked => miss(words, n, s, x, ways),
+    let place = x.place;
+    if has_block(s.mask, place) {
+        return add(words, n, s);
     }
+    miss(words, n, s, x, ways)
 }
 
 // The states that follow `s` added to the first `n` states of the scratch; how many states it then has.
-pub(crate) fn follow_to_scratch(work: &mut [u64], n: usize, s: State, x: Place, ways: u64) -> usize
-    requires { ⌜ Listed 16 x × Workable ways s × (ways ≤ 16) × (12288 + (n + 17) * 3 ≤ length (now work)) × (rising (take n (drop 4096 (tableOf (now work)))) ≡ true) ⌝ }
+pub(crate) fn follow_to_scratch(work: &mut [u64], n: usize, s: State, x: Target, ways: u64) -> usize
+    requires { ⌜ Listed 16 (x .place) × Workable ways x s × (ways ≤ 16) × (12288 + (n + 17) * 3 ≤ length (now work)) × (rising (take n (drop 4096 (tableOf (now work)))) ≡ true) ⌝ }
     ensures { λ r. ⌜ InScratch (addOf (successors ways x s) (take n (drop 4096 (tableOf (now (work .entry)))))) r (tableOf (now (work .entry))) (tableOf (now (work .exit))) ⌝ }
 {
     follow(&mut work[12288..], n, s, x, ways)
 }
 
 // What of `s` is set aside.
-pub(crate) fn left_over(s: State, x: Place, ways: u64) -> Units
-    requires { ⌜ Listed 16 x ⌝ }
+pub(crate) fn left_over(s: State, x: Target, ways: u64) -> Units
+    requires { ⌜ Listed 16 (x .place) ⌝ }
     ensures { λ r. ⌜ r .0 ≡ leftOver ways x s ⌝ }
 {
-    let u = s.units;
-    match x {
-        Place::At(i) => {
-            if has_place(s.mask, i) {
-                return Units(0);
-            }
-            u.split(ways).rest
-        }
-        Place::Untracked => u.split(ways).rest,
+    let place = x.place;
+    if has_block(s.mask, place) {
+        return Units(0);
     }
+    let u = s.units;
+    u.split(ways).rest
 }
 
 // The states that follow the `m` states at place `from`, added in the scratch, which is empty at first.
@@ -129,11 +133,11 @@ pub(crate) fn gather(
     work: &mut [u64],
     from: usize,
     m: usize,
-    x: Place,
+    x: Target,
     ways: u64,
     aside: Units,
 ) -> Tally
-    requires { ⌜ Listed 16 x × (ways ≤ 16) × (m ≤ 64) × (from + m ≤ 4096) × (15552 ≤ length (now work)) × (aside .0 ≤ whole) × Every (Workable ways) (take m (drop from (tableOf (now work)))) ⌝ }
+    requires { ⌜ Listed 16 (x .place) × (ways ≤ 16) × (m ≤ 64) × (from + m ≤ 4096) × (15552 ≤ length (now work)) × (aside .0 ≤ whole) × Every (Workable ways x) (take m (drop from (tableOf (now work)))) ⌝ }
     ensures { λ r. ⌜ InScratch (access ways x (take m (drop from (tableOf (now (work .entry)))))) (r .states) (tableOf (now (work .entry))) (tableOf (now (work .exit))) ⌝ }
     ensures { λ r. ⌜ r .aside .0 ≡ more (aside .0) (accessAside ways x (take m (drop from (tableOf (now (work .entry)))))) ⌝ }
 {

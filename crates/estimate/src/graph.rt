@@ -6,6 +6,7 @@ use crate::run::run;
 use crate::slots::count;
 use crate::slots::seal;
 use crate::states::Tally;
+use rules::Cache;
 use rules::State;
 use rules::Units;
 ghost use mathlib.Core.Path.{_≡_};
@@ -91,14 +92,14 @@ pub(crate) fn work_node(
     accesses: &[u32],
     edges: &[u32],
     tracked: &[u32],
-    ways: u64,
+    cache: Cache,
     limit: usize,
 ) -> Units
-    requires { ⌜ (length (now accesses) ≤ 4096) × Startable ways (length (now tracked)) limit (4096 - length (now accesses)) j (aside .0) (now edges) (now work) ⌝ }
-    ensures { λ r. ⌜ NodeDone (runOver ways limit (now (tracked .entry)) (now (accesses .entry)) (enterOf limit (workedIn j (aside .0) (tableOf (now (work .entry)))) (predecessors (edgesOf (now (edges .entry))) j))) j (r .0) (tableOf (now (work .entry))) (tableOf (now (work .exit))) ⌝ }
+    requires { ⌜ (length (now accesses) ≤ 4096) × Startable cache (now tracked) limit (4096 - length (now accesses)) j (aside .0) (now edges) (now work) ⌝ }
+    ensures { λ r. ⌜ NodeDone (runOver (cache .ways) (cache .sets) limit (now (tracked .entry)) (now (accesses .entry)) (enterOf limit (workedIn j (aside .0) (tableOf (now (work .entry)))) (predecessors (edgesOf (now (edges .entry))) j))) j (r .0) (tableOf (now (work .entry))) (tableOf (now (work .exit))) ⌝ }
 {
     let entered = enter(work, j, edges, aside, limit);
-    let done = run(work, j * 64, entered, accesses, tracked, ways, limit);
+    let done = run(work, j * 64, entered, accesses, tracked, cache, limit);
     seal(work, j * 64, done.states);
     done.aside
 }
@@ -110,11 +111,11 @@ pub(crate) fn work_nodes(
     accesses: &[u32],
     edges: &[u32],
     tracked: &[u32],
-    ways: u64,
+    cache: Cache,
     limit: usize,
 ) -> Units
-    requires { ⌜ (15552 ≤ length (now work)) × Checked (inputOf ways limit (now tracked) (now runs) (now accesses) (now edges)) ⌝ }
-    ensures { λ r. ⌜ workedIn (length (now (runs .entry))) (r .0) (tableOf (now (work .exit))) ≡ worked (inputOf ways limit (now (tracked .entry)) (now (runs .entry)) (now (accesses .entry)) (now (edges .entry))) (length (now (runs .entry))) ⌝ }
+    requires { ⌜ (15552 ≤ length (now work)) × Checked (inputOf cache limit (now tracked) (now runs) (now accesses) (now edges)) ⌝ }
+    ensures { λ r. ⌜ workedIn (length (now (runs .entry))) (r .0) (tableOf (now (work .exit))) ≡ worked (inputOf cache limit (now (tracked .entry)) (now (runs .entry)) (now (accesses .entry)) (now (edges .entry))) (length (now (runs .entry))) ⌝ }
 {
     let mut aside = Units(0);
     let mut from: usize = 0;
@@ -128,7 +129,7 @@ pub(crate) fn work_nodes(
             &accesses[from..to],
             edges,
             tracked,
-            ways,
+            cache,
             limit,
         );
         from = to;

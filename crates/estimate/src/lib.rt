@@ -2,6 +2,7 @@
 use crate::finish::hand_over;
 use crate::graph::work_nodes;
 use refusals::judge;
+use rules::Cache;
 use rules::Outcome;
 use rules::Verdict;
 ghost use mathlib.Core.Path.{_≡_};
@@ -21,7 +22,7 @@ mod states;
 
 // The graph call: the finished table goes to `result`, three words a state, and `work` is used on the way.
 pub fn analyse(
-    ways: u32,
+    cache: Cache,
     limit: u32,
     tracked: &[u32],
     runs: &[u32],
@@ -30,12 +31,12 @@ pub fn analyse(
     result: &mut [u64],
     work: &mut [u64],
 ) -> Outcome
-    ensures { λ r. ⌜ record { answer = r; result = now (result .exit); work = now (work .exit) } ≡ analysed ways limit (now (tracked .entry)) (now (runs .entry)) (now (accesses .entry)) (now (edges .entry)) (now (result .entry)) (now (work .entry)) ⌝ }
+    ensures { λ r. ⌜ record { answer = r; result = now (result .exit); work = now (work .exit) } ≡ analysed cache limit (now (tracked .entry)) (now (runs .entry)) (now (accesses .entry)) (now (edges .entry)) (now (result .entry)) (now (work .entry)) ⌝ }
 {
     let result_room = result.len() / 3;
     let working_room = work.len() / 3;
     match judge(
-        ways,
+        cache,
         limit,
         tracked,
         runs,
@@ -46,15 +47,7 @@ pub fn analyse(
     ) {
         Verdict::Refused(reason) => Outcome::Refused(reason),
         Verdict::Accepted => {
-            let aside = work_nodes(
-                work,
-                runs,
-                accesses,
-                edges,
-                tracked,
-                ways as u64,
-                limit as usize,
-            );
+            let aside = work_nodes(work, runs, accesses, edges, tracked, cache, limit as usize);
             let states = hand_over(result, work, runs.len() - 1);
             Outcome::Finished(states, aside)
         }

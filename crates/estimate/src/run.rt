@@ -1,16 +1,17 @@
 // Accesses one after the other, and a table joined: each followed by its folds.
 use crate::access::gather;
-use crate::contents::look_up;
+use crate::contents::aim;
 use crate::fold::fold_down;
 use crate::join::pair_up;
 use crate::memory::copy;
 use crate::states::Tally;
+use rules::Cache;
 use rules::Units;
 ghost use mathlib.Core.Path.{_≡_};
 ghost use mathlib.Core.Bool.{true};
 ghost use Prim.Native.Nat.{_+_, _*_, _-_, _≤_};
 ghost use lib.ListN.{length, take, drop};
-ghost use Rattle.rules.specs.Contents.{find};
+ghost use Rattle.rules.specs.Contents.{targetOf};
 ghost use Rattle.rules.specs.Fold.{folded};
 ghost use Rattle.rules.specs.Join.{join};
 ghost use Rattle.rules.specs.Run.{advance as advanceOf, run as runOver};
@@ -44,14 +45,14 @@ pub(crate) fn advance(
     tally: Tally,
     block: u32,
     tracked: &[u32],
-    ways: u64,
+    cache: Cache,
     limit: usize,
 ) -> Tally
-    requires { ⌜ Ready ways (length (now tracked)) limit 4095 at (tally .states) (tally .aside .0) (now work) ⌝ }
-    ensures { λ r. ⌜ InPlace (advanceOf ways limit (find (now (tracked .entry)) block) (workAt at (tally .states) (tally .aside .0) (now (work .entry)))) at (r .states) (r .aside .0) (tableOf (now (work .entry))) (tableOf (now (work .exit))) ⌝ }
+    requires { ⌜ Ready cache (now tracked) limit 4095 at (tally .states) (tally .aside .0) (now work) ⌝ }
+    ensures { λ r. ⌜ InPlace (advanceOf (cache .ways) limit (targetOf (cache .sets) (now (tracked .entry)) block) (workAt at (tally .states) (tally .aside .0) (now (work .entry)))) at (r .states) (r .aside .0) (tableOf (now (work .entry))) (tableOf (now (work .exit))) ⌝ }
 {
-    let x = look_up(tracked, block);
-    let gathered = gather(work, at, tally.states, x, ways, tally.aside);
+    let x = aim(tracked, cache.sets, block);
+    let gathered = gather(work, at, tally.states, x, cache.ways as u64, tally.aside);
     settle(work, at, gathered.states, gathered.aside, limit)
 }
 
@@ -62,16 +63,16 @@ pub(crate) fn run(
     tally: Tally,
     accesses: &[u32],
     tracked: &[u32],
-    ways: u64,
+    cache: Cache,
     limit: usize,
 ) -> Tally
-    requires { ⌜ (length (now accesses) ≤ 4096) × Ready ways (length (now tracked)) limit (4096 - length (now accesses)) at (tally .states) (tally .aside .0) (now work) ⌝ }
-    ensures { λ r. ⌜ InPlace (runOver ways limit (now (tracked .entry)) (now (accesses .entry)) (workAt at (tally .states) (tally .aside .0) (now (work .entry)))) at (r .states) (r .aside .0) (tableOf (now (work .entry))) (tableOf (now (work .exit))) ⌝ }
+    requires { ⌜ (length (now accesses) ≤ 4096) × Ready cache (now tracked) limit (4096 - length (now accesses)) at (tally .states) (tally .aside .0) (now work) ⌝ }
+    ensures { λ r. ⌜ InPlace (runOver (cache .ways) (cache .sets) limit (now (tracked .entry)) (now (accesses .entry)) (workAt at (tally .states) (tally .aside .0) (now (work .entry)))) at (r .states) (r .aside .0) (tableOf (now (work .entry))) (tableOf (now (work .exit))) ⌝ }
 {
     let mut so_far = tally;
     let mut i: usize = 0;
     while i < accesses.len() {
-        so_far = advance(work, at, so_far, accesses[i], tracked, ways, limit);
+        so_far = advance(work, at, so_far, accesses[i], tracked, cache, limit);
         i += 1;
     }
     so_far

@@ -13,6 +13,7 @@ use rows::smallest_budget;
 use rows::smallest_cycles;
 use rows::spread;
 use rules::Amount;
+use rules::Cache;
 use rules::Count;
 use rules::Length;
 use rules::Outcome;
@@ -26,7 +27,7 @@ use text::cycles_of_text;
 ghost use mathlib.Core.Path.{_≡_};
 ghost use lib.ListN.{take};
 ghost use Rattle.rules.specs.Cycles.{aboveCyclesAnswer, cycleBudgetAnswer};
-ghost use Rattle.rules.specs.Input.{inputOf};
+ghost use Rattle.rules.specs.Input.{cache, inputOf};
 ghost use Rattle.rules.specs.Longest.{longestAnswer};
 ghost use Rattle.rules.specs.Questions.{aboveAnswer, budgetAnswer, spreadAnswer};
 ghost use Rattle.words.specs.Tables.{tableOf};
@@ -37,6 +38,7 @@ ghost use Rattle.estimate_c.specs.Given.{graphGiven, amountGiven, countG
 // The graph call.
 #[no_mangle]
 pub extern "C" fn estimate_graph(
+    sets: u32,
     ways: u32,
     limit: u32,
     tracked: &[u32],
@@ -48,9 +50,18 @@ pub extern "C" fn estimate_graph(
     states: &mut usize,
     aside: &mut u64,
 ) -> u64
-    ensures { λ r. ⌜ record { number = r; states = now (states .exit); aside = now (aside .exit); result = now (result .exit); work = now (work .exit) } ≡ graphGiven (analysed ways limit (now (tracked .entry)) (now (runs .entry)) (now (accesses .entry)) (now (edges .entry)) (now (result .entry)) (now (work .entry))) (now (states .entry)) (now (aside .entry)) ⌝ }
+    ensures { λ r. ⌜ record { number = r; states = now (states .exit); aside = now (aside .exit); result = now (result .exit); work = now (work .exit) } ≡ graphGiven (analysed (cache sets ways) limit (now (tracked .entry)) (now (runs .entry)) (now (accesses .entry)) (now (edges .entry)) (now (result .entry)) (now (work .entry))) (now (states .entry)) (now (aside .entry)) ⌝ }
 {
-    match analyse(ways, limit, tracked, runs, accesses, edges, result, work) {
+    match analyse(
+        Cache { sets, ways },
+        limit,
+        tracked,
+        runs,
+        accesses,
+        edges,
+        result,
+        work,
+    ) {
         Outcome::Finished(count, units) => {
             *states = count;
             *aside = units.0;
@@ -136,6 +147,7 @@ pub extern "C" fn estimate_spread(
 // The accesses of the longest path.
 #[no_mangle]
 pub extern "C" fn estimate_longest_path(
+    sets: u32,
     ways: u32,
     limit: u32,
     tracked: &[u32],
@@ -144,9 +156,9 @@ pub extern "C" fn estimate_longest_path(
     edges: &[u32],
     longest: &mut u64,
 ) -> u64
-    ensures { λ r. ⌜ record { number = r; value = now (longest .exit) } ≡ lengthGiven (longestAnswer (inputOf ways limit (now (tracked .entry)) (now (runs .entry)) (now (accesses .entry)) (now (edges .entry)))) (now (longest .entry)) ⌝ }
+    ensures { λ r. ⌜ record { number = r; value = now (longest .exit) } ≡ lengthGiven (longestAnswer (inputOf (cache sets ways) limit (now (tracked .entry)) (now (runs .entry)) (now (accesses .entry)) (now (edges .entry)))) (now (longest .entry)) ⌝ }
 {
-    match longest_path(ways, limit, tracked, runs, accesses, edges) {
+    match longest_path(Cache { sets, ways }, limit, tracked, runs, accesses, edges) {
         Length::Accesses(found) => {
             *longest = found;
             0

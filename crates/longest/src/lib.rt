@@ -1,6 +1,7 @@
 // The longest path to the last node: document 02, request 9/13.
 use basics::larger;
 use refusals::judge;
+use rules::Cache;
 use rules::Length;
 use rules::Verdict;
 ghost use mathlib.Core.Path.{_≡_};
@@ -51,17 +52,17 @@ fn find_ends(ends: &mut [u64], runs: &[u32], edges: &[u32])
 
 // The accesses of the longest path to the last node; refused as the graph call is.
 pub fn longest_path(
-    ways: u32,
+    cache: Cache,
     limit: u32,
     tracked: &[u32],
     runs: &[u32],
     accesses: &[u32],
     edges: &[u32],
 ) -> Length
-    ensures { λ r. ⌜ r ≡ longestAnswer (inputOf ways limit (now (tracked .entry)) (now (runs .entry)) (now (accesses .entry)) (now (edges .entry))) ⌝ }
+    ensures { λ r. ⌜ r ≡ longestAnswer (inputOf cache limit (now (tracked .entry)) (now (runs .entry)) (now (accesses .entry)) (now (edges .entry))) ⌝ }
 {
     match judge(
-        ways,
+        cache,
         limit,
         tracked,
         runs,

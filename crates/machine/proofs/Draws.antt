@@ -100,23 +100,23 @@ total-cons F N c b p = by-first (λ ds. F (run c (b ∷ p) ds)) N (draws N (leng
 -- ---- counts of choice sequences
 
 -- a test that passes wherever another does counts at least as many
-pub count-le : (P Q : Cache → Bool) (N : ℕ) (p : List ℕ) → ((ds : List ℕ) → P (run (start N) p ds) ≡ true → Q (run (start N) p ds) ≡ true)
-    → count P N p ≤ count Q N p
+pub count-le : (P Q : Cache → Bool) (Z N : ℕ) (p : List ℕ)
+    → ((ds : List ℕ) → P (run (start Z N) p ds) ≡ true → Q (run (start Z N) p ds) ≡ true) → count P Z N p ≤ count Q Z N p
 unfolding count
-count-le P Q N p h = go (draws N (length p))
+count-le P Q Z N p h = go (draws N (length p))
   where
     one : (a b : Bool) → (a ≡ true → b ≡ true) → cond a 1 0 ≤ cond b 1 0
     one false b t = zero-le
     one true b t = rw (t refl) (le-refl 1)
 
-    go : (ss : List (List ℕ)) → sumOver (λ ds. cond (P (run (start N) p ds)) 1 0) ss ≤ sumOver (λ ds. cond (Q (run (start N) p ds)) 1 0) ss
+    go : (ss : List (List ℕ)) → sumOver (λ ds. cond (P (run (start Z N) p ds)) 1 0) ss ≤ sumOver (λ ds. cond (Q (run (start Z N) p ds)) 1 0) ss
     go [] = zero-le
-    go (s ∷ ss) = add-le-add (one (P (run (start N) p s)) (Q (run (start N) p s)) (h s)) (go ss)
+    go (s ∷ ss) = add-le-add (one (P (run (start Z N) p s)) (Q (run (start Z N) p s)) (h s)) (go ss)
 
 -- all of them, and no count is more
-pub count-all : (N : ℕ) (p : List ℕ) → count (λ c. true) N p ≡ N ^ length p
+pub count-all : (Z N : ℕ) (p : List ℕ) → count (λ c. true) Z N p ≡ N ^ length p
 unfolding count
-count-all N p = omega (arith, sum-each 1 (draws N (length p)), draws-many N (length p))
+count-all Z N p = omega (arith, sum-each 1 (draws N (length p)), draws-many N (length p))
 
-pub count-most : (test : Cache → Bool) (N : ℕ) (p : List ℕ) → count test N p ≤ N ^ length p
-count-most test N p = rw (← count-all N p) (count-le test (λ c. true) N p (λ ds h. refl))
+pub count-most : (test : Cache → Bool) (Z N : ℕ) (p : List ℕ) → count test Z N p ≤ N ^ length p
+count-most test Z N p = rw (← count-all Z N p) (count-le test (λ c. true) Z N p (λ ds h. refl))

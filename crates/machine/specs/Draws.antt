@@ -16,6 +16,6 @@ abbrev pub draws : ℕ → ℕ → List (List ℕ)
 draws N zero = [] ∷ []
 draws N (suc L) = withEach N (draws N L)
 
--- the choice sequences of the path p that make of N empty ways a cache that passes the test, counted
-unfoldable pub count : (Cache → Bool) → ℕ → List ℕ → ℕ
-count test N p = sumOver (λ ds. cond (test (run (start N) p ds)) 1 0) (draws N (length p))
+-- the choice sequences of the path p that make of Z sets of N empty ways a cache that passes the test, counted
+unfoldable pub count : (Cache → Bool) → ℕ → ℕ → List ℕ → ℕ
+count test Z N p = sumOver (λ ds. cond (test (run (start Z N) p ds)) 1 0) (draws N (length p))

@@ -7,40 +7,48 @@ use Prim.Native.Nat.{ℕ, suc, _+_, _*_, _%_, _≤_, _<_}
 use native.Mathlib.Nat.{mul-le-mul-left}
 use native.Mathlib.Omega.{arith}
 use Rattle.basics.specs.Sums.{sumOver}
-use Rattle.rules.specs.declared.Place.{Place}
+use Rattle.rules.specs.declared.Target.{Target}
 use Rattle.rules.specs.declared.State.{State}
-use Rattle.rules.specs.Contents.{size, has, with}
+use Rattle.rules.specs.Contents.{has, with, atRisk}
 use Rattle.rules.specs.Table.{unitsOf, total}
 use Rattle.rules.specs.Units.{whole}
 use Rattle.rules.specs.Step.{leftOver, access, accessAside}
+use Rattle.rules.specs.Shape.{Every, Aimed, Shaped}
 use Rattle.rules.proofs.Table.{worth}
-use Rattle.rules.proofs.Step.{overWays, ahead, Fits, aheadOf, alone, worth-access}
+use Rattle.rules.proofs.Step.{overWays, ahead, aheadOf, alone, worth-access}
+use Rattle.rules.proofs.Run.{fits-shaped}
 use Rattle.promises.proofs.Value.{Rises, alone-most}
 
-module _ (N : ℕ) (x : Place) (some : 0 < N) (T : List State) (fits : Fits N T) (full : total T ≤ whole) (f : ℕ → ℕ → ℕ) where
-  pub access-low : Rises N f → worth (ahead N x f) T ≤ N * worth f (access N x T)
+module _ (N Z : ℕ) (ts : List ℕ) (M : ℕ) (x : Target) (aim : Aimed Z ts x) (some : 0 < N) (T : List State) (shaped : Every (Shaped N Z ts M) T)
+    (full : total T ≤ whole) (f : ℕ → ℕ → ℕ) where
+  -- the one equation
+  equation : N * worth f (access N x T) + sumOver (λ s. leftOver N x s * aheadOf N x f s) T
+      ≡ worth (ahead N x f) T + N * sumOver (λ s. leftOver N x s * alone N x f s) T
+  equation = worth-access N x some T (fits-shaped N Z ts M T shaped x aim) full f
+
+  pub access-low : Rises N Z ts f → worth (ahead N x f) T ≤ N * worth f (access N x T)
   unfolding leftOver
-  access-low rises = omega (arith, worth-access N x some T fits full f, all T fits)
+  access-low rises = omega (arith, equation, all T shaped)
     where
-      one : (s : State) → size (s .mask) ≤ N → leftOver N x s * aheadOf N x f s ≤ N * (leftOver N x s * alone N x f s)
-      one s l = go (has (s .mask) x)
+      one : (s : State) → Shaped N Z ts M s → leftOver N x s * aheadOf N x f s ≤ N * (leftOver N x s * alone N x f s)
+      one s l = go (has (s .mask) (x .place))
         where
           S : ℕ
-          S = overWays N (s .mask) (λ D. f (with D x) (suc (s .misses)))
+          S = overWays N (s .mask) (atRisk x (s .mask)) (λ D. f (with D (x .place)) (suc (s .misses)))
 
           go : (a : Bool) → cond a 0 (unitsOf s % N) * cond a (N * f (s .mask) (s .misses)) S ≤ N * (cond a 0 (unitsOf s % N) * alone N x f s)
           go true = omega arith
-          go false = omega (arith, mul-le-mul-left (unitsOf s % N) (alone-most N (s .mask) (s .misses) x f rises l))
+          go false = omega (arith, mul-le-mul-left (unitsOf s % N) (alone-most N Z ts x aim (s .mask) (s .misses) f rises (l .0 .small)))
 
-      all : (T : List State) → Fits N T
+      all : (T : List State) → Every (Shaped N Z ts M) T
           → sumOver (λ s. leftOver N x s * aheadOf N x f s) T ≤ N * sumOver (λ s. leftOver N x s * alone N x f s) T
       all [] h = omega arith
       all (s ∷ T) h = omega (arith, all T (h .1), one s (h .0))
 
-  pub access-high : (B : ℕ) → ((m : ℕ) → f (with 0 x) m ≤ B)
+  pub access-high : (B : ℕ) → ((m : ℕ) → f (with 0 (x .place)) m ≤ B)
       → N * worth f (access N x T) ≤ worth (ahead N x f) T + N * (accessAside N x T * B)
   unfolding accessAside
-  access-high B most = omega (arith, worth-access N x some T fits full f, mul-le-mul-left N (all T))
+  access-high B most = omega (arith, equation, mul-le-mul-left N (all T))
     where
       all : (T : List State) → sumOver (λ s. leftOver N x s * alone N x f s) T ≤ sumOver (leftOver N x) T * B
       all [] = omega arith
@@ -48,7 +56,7 @@ module _ (N : ℕ) (x : Place) (some : 0 < N) (T : List State) (fits : Fits N T)
 
   pub access-even : accessAside N x T ≡ 0 → N * worth f (access N x T) ≡ worth (ahead N x f) T
   unfolding accessAside
-  access-even e = omega (arith, worth-access N x some T fits full f, none (aheadOf N x f) T e, ap (N *_) (none (alone N x f) T e))
+  access-even e = omega (arith, equation, none (aheadOf N x f) T e, ap (N *_) (none (alone N x f) T e))
     where
       none : (g : State → ℕ) (T : List State) → sumOver (leftOver N x) T ≡ 0 → sumOver (λ s. leftOver N x s * g s) T ≡ 0
       none g [] e = refl

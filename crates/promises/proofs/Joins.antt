@@ -28,15 +28,15 @@ paired-above f P S T side U u l full above = rw (matched-worth side P U u f, pai
     each [] = le-refl 0
     each (p ∷ P) = add-le-add (mul-le-mul-left (p .units) (above p)) (each P)
 
-module _ (N k M : ℕ) (f : ℕ → ℕ → ℕ) (rises : Rises N f) (S T : List State) (a : Every (Shaped N k M) S) (b : Every (Shaped N k M) T)
+module _ (N Z : ℕ) (ts : List ℕ) (M : ℕ) (f : ℕ → ℕ → ℕ) (rises : Rises N Z ts f) (S T : List State) (a : Every (Shaped N Z ts M) S) (b : Every (Shaped N Z ts M) T)
     (full : total S ≤ whole) where
   pub pairing-above : (P : List Match) → Uses (λ p. p .left) P S → Uses (λ p. p .right) P T
       → (worth f S ≤ worth f (paired P S T)) × (worth f T ≤ worth f (paired P S T))
   pairing-above P l r = (
     paired-above f P S T (λ p. p .left) S l l full
-        (λ p. rises _ _ _ _ (sub-shared-left _ _) (le-max-left _ _) (loose-at N k M (p .left) S a .small)),
+        (λ p. rises _ _ _ _ (sub-shared-left _ _) (le-max-left _ _) (loose-at N Z ts M (p .left) S a .small)),
     paired-above f P S T (λ p. p .right) T r l full
-        (λ p. rises _ _ _ _ (sub-shared-right _ _) (le-max-right _ _) (loose-at N k M (p .right) T b .small)),
+        (λ p. rises _ _ _ _ (sub-shared-right _ _) (le-max-right _ _) (loose-at N Z ts M (p .right) T b .small)),
   )
 
   pub join-above : total S ≡ total T → (worth f S ≤ worth f (join S T)) × (worth f T ≤ worth f (join S T))

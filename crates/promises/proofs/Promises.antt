@@ -1,5 +1,5 @@
 -- The promises, together and with all that they assume: an input that is accepted, by the very definition that refuses it (its
--- outcome says 0). N is its ways, L the accesses of the path, `whole` is 2^48.
+-- outcome says 0). N is its ways in each set, L the accesses of the path, `whole` is 2^48.
 use mathlib.Core.Path.{_≡_, refl, sym, ap, _∙_}
 use mathlib.Core.Bool.{true}
 use mathlib.Core.Logic.{⊎-elim}
@@ -35,20 +35,20 @@ use Rattle.promises.proofs.Cycles.{cycles-safe, cycles-tight}
 -- What stands on the left does not depend on the tracked blocks. So where a graph is worked with several lists of them, each list's units bound
 -- it, the fewest of them too: the smallest of their budgets for an allowance is safe.
 pub safe : (i : Input) → outcomeSays (outcome i) .number ≡ 0 → (path : List ℕ) → isPath i path ≡ true → (B : ℕ)
-    → count (over B) (i .ways) (accessesOf i path) * whole ≤ above B (finished i .table) * i .ways ^ length (accessesOf i path)
+    → count (over B) (i .sets) (i .ways) (accessesOf i path) * whole ≤ above B (finished i .table) * i .ways ^ length (accessesOf i path)
 safe i ok path p B =
     let c = accepted i ok in
-    let ahead = path-covers i c path p (oneWhere (overIs B)) (over-rises (i .ways) B) in
-    let machine = machine-start i c (oneWhere (overIs B)) (over-rises (i .ways) B) (accessesOf i path) in
-    rw (count-over (i .tracked) B (i .ways) (accessesOf i path), ← worth-above B (finished i .table)) (omega (arith, ahead, machine))
+    let ahead = path-covers i c path p (oneWhere (overIs B)) (over-rises (i .ways) (i .sets) (i .tracked) B) in
+    let machine = machine-start i c (oneWhere (overIs B)) (over-rises (i .ways) (i .sets) (i .tracked) B) (accessesOf i path) in
+    rw (count-over (i .tracked) B (i .sets) (i .ways) (accessesOf i path), ← worth-above B (finished i .table)) (omega (arith, ahead, machine))
 
 -- Tight, the second half of point 3. On a straight run with every block tracked the excess is at most set aside × N^L.
 pub tight : (i : Input) → outcomeSays (outcome i) .number ≡ 0 → nodes i ≡ 1 → allTracked (i .tracked) (i .accesses) ≡ true → (B : ℕ)
     → above B (finished i .table) * i .ways ^ length (i .accesses)
-    ≤ count (over B) (i .ways) (i .accesses) * whole + outcomeSays (outcome i) .aside * i .ways ^ length (i .accesses)
+    ≤ count (over B) (i .sets) (i .ways) (i .accesses) * whole + outcomeSays (outcome i) .aside * i .ways ^ length (i .accesses)
 tight i ok one all B =
     let c = accepted i ok in
-    rw (says-aside i ok, count-over (i .tracked) B (i .ways) (i .accesses))
+    rw (says-aside i ok, count-over (i .tracked) B (i .sets) (i .ways) (i .accesses))
     (⊎-elim
     (λ e. rw e (omega (arith, mul-le-mul-right (i .ways ^ length (i .accesses)) (below-whole i ok B))))
     (λ h. omega (arith, rw (worth-above B (finished i .table)) at h, machine-even i c all (oneWhere (overIs B))))
@@ -59,11 +59,11 @@ tight i ok one all B =
 pub exact : (i : Input) → outcomeSays (outcome i) .number ≡ 0 → nodes i ≡ 1 → allTracked (i .tracked) (i .accesses) ≡ true
     → outcomeSays (outcome i) .aside ≡ 0 → (C m : ℕ)
     → unitsWith C m (finished i .table) * i .ways ^ length (i .accesses)
-    ≡ whole * count (endsWith (i .tracked) C m) (i .ways) (i .accesses)
+    ≡ whole * count (endsWith (i .tracked) C m) (i .sets) (i .ways) (i .accesses)
 exact i ok one all none C m =
     let c = accepted i ok in
     let table = straight-even i c one (oneWhere (atIs C m)) (sym (says-aside i ok) ∙ none) in
-    rw (count-with (i .tracked) C m (i .ways) (i .accesses), ← worth-with C m (finished i .table))
+    rw (count-with (i .tracked) C m (i .sets) (i .ways) (i .accesses), ← worth-with C m (finished i .table))
     (omega (arith, table, machine-even i c all (oneWhere (atIs C m))))
 
 -- Whole. Units always total 2^48, and the finished table is a table by section 4, so that the questions accept it.
@@ -76,24 +76,24 @@ whole-table i ok = (finished-whole i ok, finished-is-table i ok)
 -- (choice sequences that take more cycles than B) × 2^48 ≤ (units above B in cycles) × N^(accesses of the path).
 pub safe-cycles : (i : Input) → outcomeSays (outcome i) .number ≡ 0 → (L : ℕ) → L ≡ longest i → (path : List ℕ) → isPath i path ≡ true
     → (k : ℕ) → k < length cores → (B : ℕ)
-    → count (overCycles (coreAt k) (length (accessesOf i path)) B) (i .ways) (accessesOf i path) * whole
+    → count (overCycles (coreAt k) (length (accessesOf i path)) B) (i .sets) (i .ways) (accessesOf i path) * whole
     ≤ aboveCycles (coreAt k) L B (finished i .table) * i .ways ^ length (accessesOf i path)
 safe-cycles i ok L e path p k known =
     let c = accepted i ok in
-    cycles-safe (coreAt k) (miss-above-hit k known) L (i .ways) (accessesOf i path) (rw e (no-longer i c path p))
+    cycles-safe (coreAt k) (miss-above-hit k known) L (i .sets) (i .ways) (accessesOf i path) (rw e (no-longer i c path p))
     (finished i .table) (finished-whole i ok) (rw e (finished-within i c)) (safe i ok path p)
 
 -- Tight in cycles, the second half of point 3. On a straight run with every block tracked the excess is at most set aside × N^L.
 pub tight-cycles : (i : Input) → outcomeSays (outcome i) .number ≡ 0 → nodes i ≡ 1 → allTracked (i .tracked) (i .accesses) ≡ true
     → (L : ℕ) → L ≡ longest i → (k : ℕ) → k < length cores → (B : ℕ)
     → aboveCycles (coreAt k) L B (finished i .table) * i .ways ^ length (i .accesses)
-    ≤ count (overCycles (coreAt k) (length (i .accesses)) B) (i .ways) (i .accesses) * whole
+    ≤ count (overCycles (coreAt k) (length (i .accesses)) B) (i .sets) (i .ways) (i .accesses) * whole
     + outcomeSays (outcome i) .aside * i .ways ^ length (i .accesses)
 tight-cycles i ok one all L e k known =
     let c = accepted i ok in
     let straight = longest-straight i c one in
     rw (e ∙ straight)
-    (cycles-tight (coreAt k) (miss-above-hit k known) (length (i .accesses)) (i .ways) (i .accesses) (le-refl (length (i .accesses)))
+    (cycles-tight (coreAt k) (miss-above-hit k known) (length (i .accesses)) (i .sets) (i .ways) (i .accesses) (le-refl (length (i .accesses)))
     (finished i .table) (finished-whole i ok) (rw (← straight) (finished-within i c)) (outcomeSays (outcome i) .aside) (tight i ok one all))
 
 -- Asked in cycles. The questions in cycles accept the finished table with its longest path, for every core, and say these very units and

@@ -7,54 +7,51 @@ use Prim.Native.Nat.{ℕ, suc, _+_, _*_, _^_, _≤_, _<_}
 use native.Mathlib.Nat.{le-trans, le-of-eq, mul-le-mul-left, pow-zero, pow-succ'}
 use native.Mathlib.Omega.{arith}
 use lib.ListN.{length, length-map}
-use Rattle.rules.specs.declared.Place.{Place}
+use Rattle.rules.specs.declared.Target.{Target}
 use Rattle.rules.specs.Units.{whole, more}
-use Rattle.rules.specs.Contents.{size, with, find}
+use Rattle.rules.specs.Contents.{with, targetOf}
 use Rattle.rules.specs.Table.{total, Work}
 use Rattle.rules.specs.Step.{access, accessAside}
 use Rattle.rules.specs.Run.{advance, run}
-use Rattle.rules.specs.Shape.{Every, Listed, Shaped, Table}
+use Rattle.rules.specs.Shape.{Every, Aimed, Room, Shaped, Table}
 use Rattle.rules.proofs.Splitting.{more-stops, more-cases}
-use Rattle.rules.proofs.Contents.{size-with, size-zero}
+use Rattle.rules.proofs.Sets.{aimed, room-alone}
 use Rattle.rules.proofs.Table.{worth}
-use Rattle.rules.proofs.Step.{ahead, Fits, access-shaped, access-total}
-use Rattle.rules.proofs.Run.{table-fits, table-advance, find-listed}
-use Rattle.promises.proofs.Value.{value, Rises, value-rises, value-most, placesOf}
+use Rattle.rules.proofs.Step.{ahead, access-shaped, access-total}
+use Rattle.rules.proofs.Run.{table-fits, table-advance}
+use Rattle.promises.proofs.Value.{value, Rises, value-rises, value-most, targetsOf, all-aimed}
 use Rattle.promises.proofs.Accesses.{access-low, access-high, access-even}
 use Rattle.promises.proofs.Folds.{aside-none, Kept, kept-folded}
 
 -- ---- one access with its folds
 
-module _ (N k K M : ℕ) (x : Place) (some : 0 < N) (place : Listed k x) (w : Work) (t : Table N k K M (w .table)) where
+module _ (N Z : ℕ) (ts : List ℕ) (K M : ℕ) (x : Target) (some : 0 < N) (aim : Aimed Z ts x) (w : Work) (t : Table N Z ts K M (w .table)) where
   -- after the access, before the folds
   abbrev stepped : Work
   stepped = record { table = access N x (w .table); aside = more (w .aside) (accessAside N x (w .table)) }
 
-  kept : Kept N k (suc M) stepped (advance N K x w)
+  kept : Kept N Z ts (suc M) stepped (advance N K x w)
   unfolding advance
-  kept = kept-folded N k (suc M) K stepped
-
-  fits : Fits N (w .table)
-  fits = table-fits N k K M (w .table) t
+  kept = kept-folded N Z ts (suc M) K stepped
 
   full : total (w .table) ≤ whole
   full = omega (arith, t .full)
 
-  after : Every (Shaped N k (suc M)) (access N x (w .table)) × (total (access N x (w .table)) ≤ whole)
+  after : Every (Shaped N Z ts (suc M)) (access N x (w .table)) × (total (access N x (w .table)) ≤ whole)
   after = (
-    access-shaped N k M x some place (w .table) (t .shaped),
-    le-trans (le-of-eq (access-total N x some (w .table) fits full)) full,
+    access-shaped N Z ts M x some aim (w .table) (t .shaped),
+    le-trans (le-of-eq (access-total N x some (w .table) (table-fits N Z ts K M (w .table) t x aim) full)) full,
   )
 
-  pub advance-low : (f : ℕ → ℕ → ℕ) → Rises N f → worth (ahead N x f) (w .table) ≤ N * worth f (advance N K x w .table)
+  pub advance-low : (f : ℕ → ℕ → ℕ) → Rises N Z ts f → worth (ahead N x f) (w .table) ≤ N * worth f (advance N K x w .table)
   advance-low f rises =
-      le-trans (access-low N x some (w .table) fits full f rises) (mul-le-mul-left N (kept .low f rises after))
+      le-trans (access-low N Z ts M x aim some (w .table) (t .shaped) full f rises) (mul-le-mul-left N (kept .low f rises after))
 
   pub advance-stopped : w .aside ≡ whole → advance N K x w .aside ≡ whole
   advance-stopped e = kept .stopped (more-stops (w .aside) (accessAside N x (w .table)) (omega arith))
 
   -- unless the count has stopped
-  pub advance-high : (f : ℕ → ℕ → ℕ) (B : ℕ) → ((C m : ℕ) → size C ≤ N → f C m ≤ B)
+  pub advance-high : (f : ℕ → ℕ → ℕ) (B : ℕ) → ((C m : ℕ) → Room N Z ts C → f C m ≤ B)
       → (advance N K x w .aside ≡ whole)
       ⊎ (N * worth f (advance N K x w .table) + N * (w .aside * B) ≤ worth (ahead N x f) (w .table) + N * (advance N K x w .aside * B))
   advance-high f B most = go (more-cases (w .aside) (accessAside N x (w .table))) (kept .high f B most after)
@@ -72,7 +69,7 @@ module _ (N k K M : ℕ) (x : Place) (some : 0 < N) (place : Listed k x) (w : Wo
             arith,
             mul-le-mul-left N h,
             ap (λ (a : ℕ). N * (a * B)) e,
-            access-high N x some (w .table) fits full f B (λ m. most (with 0 x) m (omega (arith, size-with 0 x, size-zero))),
+            access-high N Z ts M x aim some (w .table) (t .shaped) full f B (λ m. most (with 0 (x .place)) m (room-alone N Z ts x aim some)),
           ))
 
   pub advance-even : advance N K x w .aside ≡ 0
@@ -80,73 +77,70 @@ module _ (N k K M : ℕ) (x : Place) (some : 0 < N) (place : Listed k x) (w : Wo
   advance-even e =
       let (p, same) = kept .even after e in
       let (q, none) = aside-none (w .aside) (accessAside N x (w .table)) p in
-      (q, λ f. ap (N *_) (same f) ∙ access-even N x some (w .table) fits full f none)
+      (q, λ f. ap (N *_) (same f) ∙ access-even N Z ts M x aim some (w .table) (t .shaped) full f none)
 
 -- ---- a run
 
-module _ (N K : ℕ) (ts : List ℕ) (some : 0 < N) (room : 0 < K) where
-  abbrev k : ℕ
-  k = length ts
+module _ (N Z K : ℕ) (ts : List ℕ) (some : 0 < N) (room : 0 < K) where
+  next : (M : ℕ) (b : ℕ) (w : Work) → Table N Z ts K M (w .table) → Table N Z ts K (suc M) (advance N K (targetOf Z ts b) w .table)
+  next M b w t = table-advance N Z ts K some room M (targetOf Z ts b) w (aimed Z ts b) t
 
-  next : (M : ℕ) (b : ℕ) (w : Work) → Table N k K M (w .table) → Table N k K (suc M) (advance N K (find ts b) w .table)
-  next M b w t = table-advance N k K some room M (find ts b) w (find-listed ts b) t
-
-  pub run-low : (F : ℕ → ℕ → ℕ) → Rises N F → (M : ℕ) (bs : List ℕ) (w : Work) → Table N k K M (w .table)
-      → worth (value F N (placesOf ts bs)) (w .table) ≤ N ^ length bs * worth F (run N K ts bs w .table)
+  pub run-low : (F : ℕ → ℕ → ℕ) → Rises N Z ts F → (M : ℕ) (bs : List ℕ) (w : Work) → Table N Z ts K M (w .table)
+      → worth (value F N (targetsOf Z ts bs)) (w .table) ≤ N ^ length bs * worth F (run N Z K ts bs w .table)
   unfolding run value
   run-low F rises M [] w t = rw (pow-zero N) (omega arith)
   run-low F rises M (b ∷ bs) w t =
       rw (pow-succ' N (length bs))
       (omega (
         arith,
-        advance-low N k K M (find ts b) some (find-listed ts b) w t (value F N (placesOf ts bs)) (value-rises N F rises (placesOf ts bs)),
-        mul-le-mul-left N (run-low F rises (suc M) bs (advance N K (find ts b) w) (next M b w t)),
+        advance-low N Z ts K M (targetOf Z ts b) some (aimed Z ts b) w t (value F N (targetsOf Z ts bs)) (value-rises N Z ts F rises (targetsOf Z ts bs) (all-aimed Z ts bs)),
+        mul-le-mul-left N (run-low F rises (suc M) bs (advance N K (targetOf Z ts b) w) (next M b w t)),
       ))
 
-  run-stopped : (M : ℕ) (bs : List ℕ) (w : Work) → Table N k K M (w .table) → w .aside ≡ whole → run N K ts bs w .aside ≡ whole
+  run-stopped : (M : ℕ) (bs : List ℕ) (w : Work) → Table N Z ts K M (w .table) → w .aside ≡ whole → run N Z K ts bs w .aside ≡ whole
   unfolding run
   run-stopped M [] w t e = e
   run-stopped M (b ∷ bs) w t e =
-      run-stopped (suc M) bs (advance N K (find ts b) w) (next M b w t)
-      (advance-stopped N k K M (find ts b) some (find-listed ts b) w t e)
+      run-stopped (suc M) bs (advance N K (targetOf Z ts b) w) (next M b w t)
+      (advance-stopped N Z ts K M (targetOf Z ts b) some (aimed Z ts b) w t e)
 
-  pub run-high : (F : ℕ → ℕ → ℕ) → ((C m : ℕ) → F C m ≤ 1) → (M : ℕ) (bs : List ℕ) (w : Work) → Table N k K M (w .table)
-      → (run N K ts bs w .aside ≡ whole)
-      ⊎ (N ^ length bs * worth F (run N K ts bs w .table) + w .aside * N ^ length bs
-      ≤ worth (value F N (placesOf ts bs)) (w .table) + run N K ts bs w .aside * N ^ length bs)
+  pub run-high : (F : ℕ → ℕ → ℕ) → ((C m : ℕ) → F C m ≤ 1) → (M : ℕ) (bs : List ℕ) (w : Work) → Table N Z ts K M (w .table)
+      → (run N Z K ts bs w .aside ≡ whole)
+      ⊎ (N ^ length bs * worth F (run N Z K ts bs w .table) + w .aside * N ^ length bs
+      ≤ worth (value F N (targetsOf Z ts bs)) (w .table) + run N Z K ts bs w .aside * N ^ length bs)
   unfolding run value
   run-high F most M [] w t = inr (rw (pow-zero N) (omega arith))
   run-high F most M (b ∷ bs) w t =
-      go (advance-high N k K M (find ts b) some (find-listed ts b) w t (value F N (placesOf ts bs)) (N ^ length bs) top)
+      go (advance-high N Z ts K M (targetOf Z ts b) some (aimed Z ts b) w t (value F N (targetsOf Z ts bs)) (N ^ length bs) top)
       (run-high F most (suc M) bs v (next M b w t))
     where
       v : Work
-      v = advance N K (find ts b) w
+      v = advance N K (targetOf Z ts b) w
 
-      top : (C m : ℕ) → size C ≤ N → value F N (placesOf ts bs) C m ≤ N ^ length bs
-      top C m l = rw (length-map bs (find ts)) at (value-most F most N (placesOf ts bs) C m l)
+      top : (C m : ℕ) → Room N Z ts C → value F N (targetsOf Z ts bs) C m ≤ N ^ length bs
+      top C m l = rw (length-map bs (targetOf Z ts)) at (value-most N Z ts F most (targetsOf Z ts bs) (all-aimed Z ts bs) C m l)
 
       z : Work
-      z = run N K ts bs v
+      z = run N Z K ts bs v
 
       go : (v .aside ≡ whole)
-          ⊎ (N * worth (value F N (placesOf ts bs)) (v .table) + N * (w .aside * N ^ length bs)
-          ≤ worth (value F N (placesOf ts (b ∷ bs))) (w .table) + N * (v .aside * N ^ length bs))
+          ⊎ (N * worth (value F N (targetsOf Z ts bs)) (v .table) + N * (w .aside * N ^ length bs)
+          ≤ worth (value F N (targetsOf Z ts (b ∷ bs))) (w .table) + N * (v .aside * N ^ length bs))
           → (z .aside ≡ whole)
-          ⊎ (N ^ length bs * worth F (z .table) + v .aside * N ^ length bs ≤ worth (value F N (placesOf ts bs)) (v .table) + z .aside * N ^ length bs)
+          ⊎ (N ^ length bs * worth F (z .table) + v .aside * N ^ length bs ≤ worth (value F N (targetsOf Z ts bs)) (v .table) + z .aside * N ^ length bs)
           → (z .aside ≡ whole)
           ⊎ (N ^ suc (length bs) * worth F (z .table) + w .aside * N ^ suc (length bs)
-          ≤ worth (value F N (placesOf ts (b ∷ bs))) (w .table) + z .aside * N ^ suc (length bs))
+          ≤ worth (value F N (targetsOf Z ts (b ∷ bs))) (w .table) + z .aside * N ^ suc (length bs))
       go (inl e) h = inl (run-stopped (suc M) bs v (next M b w t) e)
       go (inr g) (inl h) = inl h
       go (inr g) (inr h) = inr (rw (pow-succ' N (length bs)) (omega (arith, g, mul-le-mul-left N h)))
 
-  pub run-even : (F : ℕ → ℕ → ℕ) (M : ℕ) (bs : List ℕ) (w : Work) → Table N k K M (w .table) → run N K ts bs w .aside ≡ 0
-      → (w .aside ≡ 0) × (N ^ length bs * worth F (run N K ts bs w .table) ≡ worth (value F N (placesOf ts bs)) (w .table))
+  pub run-even : (F : ℕ → ℕ → ℕ) (M : ℕ) (bs : List ℕ) (w : Work) → Table N Z ts K M (w .table) → run N Z K ts bs w .aside ≡ 0
+      → (w .aside ≡ 0) × (N ^ length bs * worth F (run N Z K ts bs w .table) ≡ worth (value F N (targetsOf Z ts bs)) (w .table))
   unfolding run value
   run-even F M [] w t e = (e, rw (pow-zero N) (omega arith))
   run-even F M (b ∷ bs) w t e =
-      let v = advance N K (find ts b) w in
+      let v = advance N K (targetOf Z ts b) w in
       let (p, rest) = run-even F (suc M) bs v (next M b w t) e in
-      let (q, here) = advance-even N k K M (find ts b) some (find-listed ts b) w t p in
-      (q, rw (pow-succ' N (length bs)) (omega (arith, here (value F N (placesOf ts bs)), ap (N *_) rest)))
+      let (q, here) = advance-even N Z ts K M (targetOf Z ts b) some (aimed Z ts b) w t p in
+      (q, rw (pow-succ' N (length bs)) (omega (arith, here (value F N (targetsOf Z ts bs)), ap (N *_) rest)))

@@ -1,54 +1,62 @@
 -- The value of contents C with m misses along the accesses ahead: what the rules say that all draws to come add up to, for a weight F
 -- of what they end in. It rises as blocks are taken away and misses added, and a remainder that goes to the accessed block alone, and
 -- a fold, are safe for that reason.
-use mathlib.Core.Path.{_≡_, refl, sym, ap, ap₂, _∙_}
+use mathlib.Core.Path.{_≡_, refl, sym, ap, _∙_}
 use mathlib.Core.Bool.{Bool, true, false, cond, true≢false}
 use mathlib.Core.List.{List, [], _∷_, _++_, map}
 use Prim.Native.Nat.{ℕ, zero, suc, _+_, _-_, _*_, _^_, _≤_, _<_, suc-le-suc}
 use native.Mathlib.Nat.{le-refl, le-trans, le-step, mul-le-mul-left, pow-zero, pow-succ'}
 use native.Mathlib.Omega.{arith}
 use lib.ListN.{length}
-use Rattle.basics.proofs.Sums.{sumOn, sum-le, sum-add, on-none, sum-each}
+use Rattle.basics.proofs.Sums.{sumOn, sum-le, sum-add, sum-each}
 use Rattle.rules.specs.declared.Place.{Place}
 use Rattle.rules.specs.declared.Place.the-variants.{At as at, Untracked as untracked}
-use Rattle.rules.specs.Contents.{places, bit, has, with, without, held, size, find}
+use Rattle.rules.specs.declared.Target.{Target}
+use Rattle.rules.specs.Contents.{places, bit, has, with, without, held, size, targetOf, atRisk}
+use Rattle.rules.specs.Shape.{Every, Aimed, Room}
 use Rattle.rules.proofs.Bits.{bit-zero}
-use Rattle.rules.proofs.Contents.{Sub, sum-held, size-zero, size-sub, size-with, size-moved, sub-with, sub-with-has, sub-without, sub-without-both, sub-into-without}
+use Rattle.rules.proofs.Contents.{Sub, sum-held, size-sub, sub-with, sub-with-has, sub-without, sub-without-both, sub-into-without}
+use Rattle.rules.proofs.Sets.{aimed, risk-sub, risk-more, risk-in, room-sub, room-risk, room-joined, room-moved}
 use Rattle.rules.proofs.Step.{overWays, ahead, others, overWays-each}
 
--- where the accessed blocks bs stand in the list of tracked blocks
-abbrev pub placesOf : List ℕ → List ℕ → List Place
-placesOf ts bs = map (find ts) bs
+-- what the accesses to bs are after
+abbrev pub targetsOf : ℕ → List ℕ → List ℕ → List Target
+targetsOf Z ts bs = map (targetOf Z ts) bs
 
--- F summed over the N ^ (length p) draws of the places p, from contents C with m misses
-unfoldable pub value : (ℕ → ℕ → ℕ) → ℕ → List Place → ℕ → ℕ → ℕ
+pub all-aimed : (Z : ℕ) (ts bs : List ℕ) → Every (Aimed Z ts) (targetsOf Z ts bs)
+all-aimed Z ts [] = tt
+all-aimed Z ts (b ∷ bs) = (aimed Z ts b, all-aimed Z ts bs)
+
+-- F summed over the N ^ (length p) draws of the accesses p, from contents C with m misses
+unfoldable pub value : (ℕ → ℕ → ℕ) → ℕ → List Target → ℕ → ℕ → ℕ
 value F N [] C m = F C m
 value F N (x ∷ p) C m = ahead N x (value F N p) C m
 
--- a weight rises with the misses, and as blocks are taken away from contents that have room in N ways
-abbrev pub Rises : ℕ → (ℕ → ℕ → ℕ) → Type 0
-Rises N f = (C D m n : ℕ) → Sub C D → n ≤ m → size D ≤ N → f D n ≤ f C m
+-- a weight rises with the misses, and as blocks are taken away from contents that have room in their sets
+abbrev pub Rises : ℕ → ℕ → List ℕ → (ℕ → ℕ → ℕ) → Type 0
+Rises N Z ts f = (C D m n : ℕ) → Sub C D → n ≤ m → Room N Z ts D → f D n ≤ f C m
 
 -- ---- the sum over the ways rises
 
 -- as a sum over all places
-pub over-places : (N C : ℕ) (g : ℕ → ℕ) → overWays N C g ≡ sumOn places (bit C) (λ e. g (without C e)) + (N - size C) * g C
-over-places N C g = ap (_+ (N - size C) * g C) (sum-held (λ e. g (without C e)) C)
+pub over-places : (N C E : ℕ) (g : ℕ → ℕ) → overWays N C E g ≡ sumOn places (bit E) (λ e. g (without C e)) + (N - size E) * g C
+over-places N C E g = ap (_+ (N - size E) * g C) (sum-held (λ e. g (without C e)) E)
 
--- y for each block of C
-pub over-blocks : (C y : ℕ) → sumOn places (bit C) (λ i. y) ≡ size C * y
+-- y for each block of E
+pub over-blocks : (E y : ℕ) → sumOn places (bit E) (λ i. y) ≡ size E * y
 unfolding size
-over-blocks C y = sym (sum-held (λ i. y) C) ∙ sum-each y (held C)
+over-blocks E y = sym (sum-held (λ i. y) E) ∙ sum-each y (held E)
 
-module _ (N C D : ℕ) (f g : ℕ → ℕ) (s : Sub C D) (small : size D ≤ N)
-    (both : (i : ℕ) → i < places → bit C i ≡ true → f (without D i) ≤ g (without C i))
-    (one : (i : ℕ) → i < places → bit D i ≡ true → bit C i ≡ false → f (without D i) ≤ g C)
-    (none : size D < N → f D ≤ g C) where
-  block-by-block : sumOn places (bit D) (λ i. f (without D i)) + sumOn places (bit C) (λ i. g C)
-      ≤ sumOn places (bit C) (λ i. g (without C i)) + sumOn places (bit D) (λ i. g C)
+-- from C a block of A can go, from D a block of B
+module _ (N C A D B : ℕ) (f g : ℕ → ℕ) (s : Sub A B) (small : size B ≤ N)
+    (both : (i : ℕ) → i < places → bit A i ≡ true → f (without D i) ≤ g (without C i))
+    (one : (i : ℕ) → i < places → bit B i ≡ true → bit A i ≡ false → f (without D i) ≤ g C)
+    (none : size B < N → f D ≤ g C) where
+  block-by-block : sumOn places (bit B) (λ i. f (without D i)) + sumOn places (bit A) (λ i. g C)
+      ≤ sumOn places (bit A) (λ i. g (without C i)) + sumOn places (bit B) (λ i. g C)
   block-by-block =
       rw (← sum-add, ← sum-add)
-      (sum-le places _ _ (λ i l. go i (bit C i) (bit D i) (s i) (both i l) (one i l)))
+      (sum-le places _ _ (λ i l. go i (bit A i) (bit B i) (s i) (both i l) (one i l)))
     where
       go : (i : ℕ) (c d : Bool) → (c ≡ true → d ≡ true) → (c ≡ true → f (without D i) ≤ g (without C i))
           → (d ≡ true → c ≡ false → f (without D i) ≤ g C)
@@ -58,24 +66,36 @@ module _ (N C D : ℕ) (f g : ℕ → ℕ) (s : Sub C D) (small : size D ≤ N)
       go i false true t a b = omega (arith, b refl refl)
       go i false false t a b = omega arith
 
-  pub overWays-rises : overWays N D f ≤ overWays N C g
+  overWays-rises : overWays N D B f ≤ overWays N C A g
   overWays-rises =
-      let (r, e, d) = others N (size D) small in
-      let (q, e′, d′) = others N (size C) (omega (arith, size-sub C D s)) in
-      rw (over-places N D f, over-places N C g, d, d′)
+      let (r, e, d) = others N (size B) small in
+      let (q, e′, d′) = others N (size A) (omega (arith, size-sub A B s)) in
+      rw (over-places N D B f, over-places N C A g, d, d′)
       (omega (
         arith,
         block-by-block,
-        over-blocks C (g C),
-        over-blocks D (g C),
+        over-blocks A (g C),
+        over-blocks B (g C),
         last r e,
         ap (λ (n : ℕ). n * g C) e,
         ap (λ (n : ℕ). n * g C) e′,
       ))
     where
-      last : (r : ℕ) → N ≡ size D + r → r * f D ≤ r * g C
+      last : (r : ℕ) → N ≡ size B + r → r * f D ≤ r * g C
       last zero e = omega arith
       last (suc r) e = mul-le-mul-left (suc r) (none (omega arith))
+
+-- where each way gives at most y, or at least y
+module _ (N C E y : ℕ) (g : ℕ → ℕ) (small : size E ≤ N) where
+  overWays-most : ((i : ℕ) → i < places → bit E i ≡ true → g (without C i) ≤ y) → (size E < N → g C ≤ y) → overWays N C E g ≤ N * y
+  overWays-most lost kept =
+      rw (← overWays-each N C E y small)
+      (overWays-rises N C E C E g (λ D. y) (λ i e. e) small lost (λ i l h n. absurd (true≢false (sym h ∙ n))) kept)
+
+  overWays-least : ((i : ℕ) → i < places → bit E i ≡ true → y ≤ g (without C i)) → (size E < N → y ≤ g C) → N * y ≤ overWays N C E g
+  overWays-least lost kept =
+      rw (← overWays-each N C E y small)
+      (overWays-rises N C E C E (λ D. y) g (λ i e. e) small lost (λ i l h n. absurd (true≢false (sym h ∙ n))) kept)
 
 -- ---- the value rises
 
@@ -83,86 +103,88 @@ has-sub : (C D : ℕ) (x : Place) → Sub C D → has C x ≡ true → has D x �
 has-sub C D (at i) s h = s i h
 has-sub C D untracked s h = h
 
--- contents that have room still have it after a draw
-moved : (N C i : ℕ) (x : Place) → i < places → bit C i ≡ true → size C ≤ N → size (with (without C i) x) ≤ N
-moved N C i x l h s = le-trans (size-moved C i x l h) s
-
-joined : (N C : ℕ) (x : Place) → size C < N → size (with C x) ≤ N
-joined N C x s = omega (arith, size-with C x)
-
-module _ (N : ℕ) where
-  ahead-rises : (f : ℕ → ℕ → ℕ) → Rises N f → (x : Place) → Rises N (ahead N x f)
-  ahead-rises f rises x C D m n s l small = go (has C x) (has D x) refl refl
-    where
-      go : (a b : Bool) → has C x ≡ a → has D x ≡ b → cond b (N * f D n) (overWays N D (λ E. f (with E x) (suc n)))
-          ≤ cond a (N * f C m) (overWays N C (λ E. f (with E x) (suc m)))
-      go true true c d = mul-le-mul-left N (rises C D m n s l small)
-      go true false c d = absurd (true≢false (sym (has-sub C D x s c) ∙ d))
-      go false true c d =
-          rw (← overWays-each N D (f D n) small)
-          (overWays-rises N C D (λ E. f D n) (λ E. f (with E x) (suc m)) s small
-          (λ i h e. rises (with (without C i) x) D (suc m) n
-          (sub-with-has (without C i) D x (λ j t. s j (sub-without C i e j t)) d) (le-step l) small)
-          (λ i h e e′. rises (with C x) D (suc m) n (sub-with-has C D x s d) (le-step l) small)
-          (λ h. rises (with C x) D (suc m) n (sub-with-has C D x s d) (le-step l) small))
-      go false false c d =
-          overWays-rises N C D (λ E. f (with E x) (suc n)) (λ E. f (with E x) (suc m)) s small
-          (λ i h e. rises (with (without C i) x) (with (without D i) x) (suc m) (suc n)
-          (sub-with (without C i) (without D i) x (sub-without-both C D i s e)) (suc-le-suc l) (moved N D i x h (s i e) small))
-          (λ i h e e′. rises (with C x) (with (without D i) x) (suc m) (suc n)
-          (sub-with C (without D i) x (sub-into-without C D i s e′)) (suc-le-suc l) (moved N D i x h e small))
-          (λ h. rises (with C x) (with D x) (suc m) (suc n) (sub-with C D x s) (suc-le-suc l) (joined N D x h))
-
-  pub value-rises : (F : ℕ → ℕ → ℕ) → Rises N F → (p : List Place) → Rises N (value F N p)
-  unfolding value
-  value-rises F rises [] = rises
-  value-rises F rises (x ∷ p) = ahead-rises (value F N p) (value-rises F rises p) x
-
--- ---- the most that an access can be worth
-
 pub sub-zero : (C : ℕ) → Sub 0 C
 sub-zero C i h = absurd (true≢false (sym h ∙ bit-zero i))
 
-overWays-zero : (N : ℕ) (g : ℕ → ℕ) → overWays N 0 g ≡ N * g 0
-overWays-zero N g =
-    over-places N 0 g
-    ∙ ap₂ (λ (a b : ℕ). a + (N - b) * g 0) (on-none places (bit 0) (λ i. g (without 0 i)) (λ i l. bit-zero i)) size-zero
-    ∙ ring (N - 0) (omega arith)
-  where
-    ring : (d : ℕ) → d ≡ N → 0 + d * g 0 ≡ N * g 0
-    ring d e = rw e (omega arith)
+module _ (N Z : ℕ) (ts : List ℕ) where
+  module _ (x : Target) (aim : Aimed Z ts x) where
+    ahead-rises : (f : ℕ → ℕ → ℕ) → Rises N Z ts f → Rises N Z ts (ahead N x f)
+    ahead-rises f rises C D m n s l room = go (has C y) (has D y) refl refl
+      where
+        y : Place
+        y = x .place
 
--- nothing held but x, for every way
-pub alone-most : (N C m : ℕ) (x : Place) (f : ℕ → ℕ → ℕ) → Rises N f → size C ≤ N
-    → overWays N C (λ D. f (with D x) (suc m)) ≤ N * f (with 0 x) (suc m)
-alone-most N C m x f rises small =
-    rw (← overWays-zero N (λ D. f (with D x) (suc m)))
-    (overWays-rises N 0 C (λ D. f (with D x) (suc m)) (λ D. f (with D x) (suc m)) (sub-zero C) small
-    (λ i l h. absurd (true≢false (sym h ∙ bit-zero i)))
-    (λ i l h n. rises _ _ _ _ (sub-with 0 (without C i) x (sub-zero (without C i))) (le-refl (suc m)) (moved N C i x l h small))
-    (λ h. rises _ _ _ _ (sub-with 0 C x (sub-zero C)) (le-refl (suc m)) (joined N C x h)))
+        small : size (atRisk x D) ≤ N
+        small = room-risk N Z ts x aim D room
 
--- where F is at most 1, the value is at most the number of draws
-pub value-most : (F : ℕ → ℕ → ℕ) → ((C m : ℕ) → F C m ≤ 1) → (N : ℕ) (p : List Place) (C m : ℕ) → size C ≤ N → value F N p C m ≤ N ^ length p
-unfolding value
-value-most F most N [] C m small = rw (pow-zero N) (most C m)
-value-most F most N (x ∷ p) C m small = go (has C x) (value-most F most N p)
-  where
-    v : ℕ → ℕ → ℕ
-    v = value F N p
+        less : size (atRisk x C) ≤ N
+        less = room-risk N Z ts x aim C (room-sub N Z ts C D s room)
 
-    go : (a : Bool) → ((D n : ℕ) → size D ≤ N → v D n ≤ N ^ length p)
-        → cond a (N * v C m) (overWays N C (λ D. v (with D x) (suc m))) ≤ N ^ suc (length p)
-    go true ih = rw (pow-succ' N (length p)) (mul-le-mul-left N (ih C m small))
-    go false ih =
-        rw (pow-succ' N (length p), ← overWays-each N C (N ^ length p) small)
-        (overWays-rises N C C (λ D. v (with D x) (suc m)) (λ D. N ^ length p) (λ i e. e) small
-        (λ i l h. ih _ _ (moved N C i x l h small))
-        (λ i l h n. ih _ _ (moved N C i x l h small))
-        (λ h. ih _ _ (joined N C x h)))
+        gone : (i : ℕ) → bit (atRisk x C) i ≡ true → Sub (without C i) C
+        gone i e = sub-without C i (risk-sub x C i e)
+
+        go : (a b : Bool) → has C y ≡ a → has D y ≡ b
+            → cond b (N * f D n) (overWays N D (atRisk x D) (λ E. f (with E y) (suc n)))
+            ≤ cond a (N * f C m) (overWays N C (atRisk x C) (λ E. f (with E y) (suc m)))
+        go true true c d = mul-le-mul-left N (rises C D m n s l room)
+        go true false c d = absurd (true≢false (sym (has-sub C D y s c) ∙ d))
+        go false true c d =
+            overWays-least N C (atRisk x C) (f D n) (λ E. f (with E y) (suc m)) less
+            (λ i h e. rises (with (without C i) y) D (suc m) n
+            (sub-with-has (without C i) D y (λ j t. s j (gone i e j t)) d) (le-step l) room)
+            (λ h. rises (with C y) D (suc m) n (sub-with-has C D y s d) (le-step l) room)
+        go false false c d =
+            overWays-rises N C (atRisk x C) D (atRisk x D) (λ E. f (with E y) (suc n)) (λ E. f (with E y) (suc m)) (risk-more x C D s) small
+            (λ i h e. rises (with (without C i) y) (with (without D i) y) (suc m) (suc n)
+            (sub-with (without C i) (without D i) y (sub-without-both C D i s (risk-sub x C i e))) (suc-le-suc l)
+            (room-moved N Z ts x aim D i room h (risk-more x C D s i e)))
+            (λ i h e e′. rises (with C y) (with (without D i) y) (suc m) (suc n)
+            (sub-with C (without D i) y (sub-into-without C D i s (not-held i e e′))) (suc-le-suc l) (room-moved N Z ts x aim D i room h e))
+            (λ h. rises (with C y) (with D y) (suc m) (suc n) (sub-with C D y s) (suc-le-suc l) (room-joined N Z ts x aim D room h))
+          where
+            not-held : (i : ℕ) → bit (atRisk x D) i ≡ true → bit (atRisk x C) i ≡ false → bit C i ≡ false
+            not-held i e e′ = pick (bit C i) refl
+              where
+                pick : (a : Bool) → bit C i ≡ a → a ≡ false
+                pick true t = absurd (true≢false (sym (risk-in x D i C e t) ∙ e′))
+                pick false t = refl
+
+    -- ---- the most that an access can be worth
+
+    -- nothing held but x, for every way
+    pub alone-most : (C m : ℕ) (f : ℕ → ℕ → ℕ) → Rises N Z ts f → Room N Z ts C
+        → overWays N C (atRisk x C) (λ D. f (with D (x .place)) (suc m)) ≤ N * f (with 0 (x .place)) (suc m)
+    alone-most C m f rises room =
+        overWays-most N C (atRisk x C) (f (with 0 (x .place)) (suc m)) (λ D. f (with D (x .place)) (suc m)) (room-risk N Z ts x aim C room)
+        (λ i l h. rises _ _ _ _ (sub-with 0 (without C i) (x .place) (sub-zero (without C i))) (le-refl (suc m)) (room-moved N Z ts x aim C i room l h))
+        (λ h. rises _ _ _ _ (sub-with 0 C (x .place) (sub-zero C)) (le-refl (suc m)) (room-joined N Z ts x aim C room h))
+
+  pub value-rises : (F : ℕ → ℕ → ℕ) → Rises N Z ts F → (p : List Target) → Every (Aimed Z ts) p → Rises N Z ts (value F N p)
+  unfolding value
+  value-rises F rises [] aim = rises
+  value-rises F rises (x ∷ p) aim = ahead-rises x (aim .0) (value F N p) (value-rises F rises p (aim .1))
+
+  -- where F is at most 1, the value is at most the number of draws
+  pub value-most : (F : ℕ → ℕ → ℕ) → ((C m : ℕ) → F C m ≤ 1) → (p : List Target) → Every (Aimed Z ts) p → (C m : ℕ) → Room N Z ts C
+      → value F N p C m ≤ N ^ length p
+  unfolding value
+  value-most F most [] aim C m room = rw (pow-zero N) (most C m)
+  value-most F most (x ∷ p) aim C m room = go (has C (x .place)) (value-most F most p (aim .1))
+    where
+      v : ℕ → ℕ → ℕ
+      v = value F N p
+
+      go : (a : Bool) → ((D n : ℕ) → Room N Z ts D → v D n ≤ N ^ length p)
+          → cond a (N * v C m) (overWays N C (atRisk x C) (λ D. v (with D (x .place)) (suc m))) ≤ N ^ suc (length p)
+      go true ih = rw (pow-succ' N (length p)) (mul-le-mul-left N (ih C m room))
+      go false ih =
+          rw (pow-succ' N (length p))
+          (overWays-most N C (atRisk x C) (N ^ length p) (λ D. v (with D (x .place)) (suc m)) (room-risk N Z ts x (aim .0) C room)
+          (λ i l h. ih _ _ (room-moved N Z ts x (aim .0) C i room l h))
+          (λ h. ih _ _ (room-joined N Z ts x (aim .0) C room h)))
 
 -- along p and then q
-pub value-append : (F : ℕ → ℕ → ℕ) (N : ℕ) (p q : List Place) → value F N (p ++ q) ≡ value (value F N q) N p
+pub value-append : (F : ℕ → ℕ → ℕ) (N : ℕ) (p q : List Target) → value F N (p ++ q) ≡ value (value F N q) N p
 unfolding value
 value-append F N [] q = refl
 value-append F N (x ∷ p) q = ap {B = ℕ → ℕ → ℕ} (λ (g : ℕ → ℕ → ℕ) C m. ahead N x g C m) (value-append F N p q)

@@ -41,8 +41,8 @@ worth-one test (s ∷ T) = go (test (s .mask) (s .misses)) (worth-one test T)
 abbrev pub overIs : ℕ → ℕ → ℕ → Bool
 overIs B C m = ltb B m
 
-pub over-rises : (N B : ℕ) → Rises N (oneWhere (overIs B))
-over-rises N B C D m n s l small = go (ltb B n) (ltb B m) refl refl
+pub over-rises : (N Z : ℕ) (ts : List ℕ) (B : ℕ) → Rises N Z ts (oneWhere (overIs B))
+over-rises N Z ts B C D m n s l small = go (ltb B n) (ltb B m) refl refl
   where
     go : (a b : Bool) → ltb B n ≡ a → ltb B m ≡ b → cond a 1 0 ≤ cond b 1 0
     go true true p q = le-refl 1
@@ -53,9 +53,9 @@ pub worth-above : (B : ℕ) (T : List State) → worth (oneWhere (overIs B)) T �
 unfolding above
 worth-above B T = worth-one (overIs B) T
 
-pub count-over : (ts : List ℕ) (B N : ℕ) (p : List ℕ) → count (over B) N p ≡ total (seen ts (oneWhere (overIs B))) N (start N) p
+pub count-over : (ts : List ℕ) (B Z N : ℕ) (p : List ℕ) → count (over B) Z N p ≡ total (seen ts (oneWhere (overIs B))) N (start Z N) p
 unfolding count total
-count-over ts B N p = refl
+count-over ts B Z N p = refl
 
 -- ---- at one contents and miss count
 
@@ -66,6 +66,6 @@ pub worth-with : (C m : ℕ) (T : List State) → worth (oneWhere (atIs C m)) T 
 unfolding unitsWith
 worth-with C m T = worth-one (atIs C m) T
 
-pub count-with : (ts : List ℕ) (C m N : ℕ) (p : List ℕ) → count (endsWith ts C m) N p ≡ total (seen ts (oneWhere (atIs C m))) N (start N) p
+pub count-with : (ts : List ℕ) (C m Z N : ℕ) (p : List ℕ) → count (endsWith ts C m) Z N p ≡ total (seen ts (oneWhere (atIs C m))) N (start Z N) p
 unfolding count total
-count-with ts C m N p = refl
+count-with ts C m Z N p = refl

@@ -1,12 +1,13 @@
 -- What is counted where a path ends: in the machine, choice sequences; in the finished table, units.
 use mathlib.Core.Bool.{Bool, cond, _&&_}
-use mathlib.Core.List.{List, [], _∷_}
-use Prim.Native.Nat.{ℕ, _+_, _*_}
+use mathlib.Core.List.{List}
+use Prim.Native.Nat.{ℕ}
 use lib.Dec.{eqb, ltb}
 use Rattle.basics.specs.Sums.{sumOver}
-use Rattle.machine.specs.Cache.{Way, holds, Cache}
+use Rattle.machine.specs.Cache.{Cache, inCache}
 use Rattle.rules.specs.declared.State.{State}
 use Rattle.rules.specs.declared.Core.{Core}
+use Rattle.rules.specs.Contents.{maskOf}
 use Rattle.rules.specs.Table.{unitsOf}
 use Rattle.rules.specs.Cycles.{cyclesOf}
 
@@ -19,14 +20,13 @@ over B c = ltb B (c .misses)
 abbrev pub overCycles : Core → ℕ → ℕ → Cache → Bool
 overCycles c n B cache = ltb B (cyclesOf c n (cache .misses))
 
--- the contents mask of the tracked blocks that the ways hold: bit i for the block at place i of the list
-unfoldable pub contentsOf : List ℕ → List Way → ℕ
-contentsOf [] ws = 0
-contentsOf (t ∷ ts) ws = contentsOf ts ws * 2 + cond (holds ws t) 1 0
+-- the contents mask of the tracked blocks that the cache holds: bit i for the block at place i of the list
+unfoldable pub contentsOf : List ℕ → Cache → ℕ
+contentsOf ts c = maskOf (inCache c) ts
 
 -- the cache ends with contents C and m misses
 abbrev pub endsWith : List ℕ → ℕ → ℕ → Cache → Bool
-endsWith ts C m c = eqb (contentsOf ts (c .ways)) C && eqb (c .misses) m
+endsWith ts C m c = eqb (contentsOf ts c) C && eqb (c .misses) m
 
 -- the units of a table at contents C and m misses
 unfoldable pub unitsWith : ℕ → ℕ → List State → ℕ

@@ -1,4 +1,5 @@
-// When the work says no: document 01, section 5.
+// When the work says no: document 01, section 5; document 02, request 1/13.
+use rules::Cache;
 use rules::Refusal;
 use rules::Verdict;
 use rules::precedes;
@@ -12,7 +13,7 @@ ghost use Rattle.basics.specs.Sums.{sumOver};
 ghost use Rattle.rules.specs.Contents.{among, once};
 ghost use Rattle.rules.specs.Ordered.{rises};
 ghost use Rattle.rules.specs.Input.{edgesOf, inputIn};
-ghost use Rattle.rules.specs.Refusals.{outside, forward, edgeOrder, hasEdgeIn, hasEdgeOut, edgesKept, verdict};
+ghost use Rattle.rules.specs.Refusals.{outside, forward, edgeOrder, hasEdgeIn, hasEdgeOut, edgesKept, setCounts, verdict};
 ghost use Rattle.refusals.specs.Edges.{sideOf};
 
 // Whether `n` is not one of `low` .. `high`.
@@ -37,6 +38,13 @@ fn among(list: &[u32], b: u32) -> bool
         i += 1;
     }
     false
+}
+
+// Whether `sets` is one of the set counts that there are.
+fn is_set_count(sets: u32) -> bool
+    ensures { λ r. ⌜ r ≡ among setCounts sets ⌝ }
+{
+    among(&[1, 2, 4, 8, 16], sets)
 }
 
 // Whether no number of `list` is listed twice.
@@ -187,7 +195,7 @@ fn graph_broken(runs: &[u32], accesses: usize, edges: &[u32]) -> bool
 
 // The first reason of the table that applies, in its order.
 pub fn judge(
-    ways: u32,
+    cache: Cache,
     limit: u32,
     tracked: &[u32],
     runs: &[u32],
@@ -196,12 +204,18 @@ pub fn judge(
     result_room: usize,
     working_room: usize,
 ) -> Verdict
-    ensures { λ r. ⌜ r ≡ verdict (inputIn ways limit (now (tracked .entry)) (now (runs .entry)) (now (accesses .entry)) (now (edges .entry)) «result_room» «working_room») ⌝ }
+    ensures { λ r. ⌜ r ≡ verdict (inputIn cache limit (now (tracked .entry)) (now (runs .entry)) (now (accesses .entry)) (now (edges .entry)) «result_room» «working_room») ⌝ }
 {
-    if outside(1, 16, ways as u64) {
+    let bad_ways = outside(1, 16, cache.ways as u64);
+    let bad_sets = !is_set_count(cache.sets);
+    let bad_limit = outside(1, 64, limit as u64);
+    if bad_ways {
         return Verdict::Refused(Refusal::Ways);
     }
-    if outside(1, 64, limit as u64) {
+    if bad_sets {
+        return Verdict::Refused(Refusal::Sets);
+    }
+    if bad_limit {
         return Verdict::Refused(Refusal::Limit);
     }
     if 16 < tracked.len() {

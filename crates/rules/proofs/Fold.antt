@@ -20,7 +20,8 @@ use Rattle.rules.specs.Shape.{Every, Loose, Shaped}
 use Rattle.rules.proofs.Splitting.{more-adds, more-most}
 use Rattle.rules.proofs.Lists.{every-remove, every-at, every-weaker, length-remove, best-lt}
 use Rattle.rules.proofs.Ordered.{in-order-remove}
-use Rattle.rules.proofs.Contents.{size-zero, size-sub, sub-shared-left, shared-lt}
+use Rattle.rules.proofs.Contents.{sub-shared-left, shared-lt}
+use Rattle.rules.proofs.Sets.{room-sub, room-zero}
 use Rattle.rules.proofs.Table.{Rising, rising-add, length-add-all, every-add, worthOf, worth, worth-add, worth-remove, one, worth-total}
 use Rattle.rules.proofs.Step.{shaped-plus}
 
@@ -79,33 +80,33 @@ pub rising-fold : (p : Pair) (w : Work) → Rising (w .table) → Rising (foldAt
 unfolding foldAt
 rising-fold p w h = rising-add _ _ (in-order-remove _ _ _ (in-order-remove _ _ (w .table) h))
 
-module _ (N k M : ℕ) where
-  pub loose-none : Loose N k M (state 0 0 0)
-  loose-none = record { masked = pow-pos k; few = zero-le; small = omega (arith, size-zero) }
+module _ (N Z : ℕ) (ts : List ℕ) (M : ℕ) where
+  pub loose-none : Loose N Z ts M (state 0 0 0)
+  loose-none = record { masked = pow-pos (length ts); few = zero-le; small = room-zero N Z ts }
 
-  pub shaped-meet : (s t : State) (u : ℕ) → Loose N k M s → Loose N k M t → u ≢ 0 → Shaped N k M (meet s t u)
+  pub shaped-meet : (s t : State) (u : ℕ) → Loose N Z ts M s → Loose N Z ts M t → u ≢ 0 → Shaped N Z ts M (meet s t u)
   shaped-meet s t u p q n = (
     record {
-      masked = shared-lt k (s .mask) (t .mask) (p .masked);
+      masked = shared-lt (length ts) (s .mask) (t .mask) (p .masked);
       few = max-le (p .few) (q .few);
-      small = le-trans (size-sub _ _ (sub-shared-left (s .mask) (t .mask))) (p .small);
+      small = room-sub N Z ts _ _ (sub-shared-left (s .mask) (t .mask)) (p .small);
     },
     pos-of-ne-zero n,
   )
 
   -- the state at a place, or none
-  pub loose-at : (i : ℕ) (T : List State) → Every (Shaped N k M) T → Loose N k M (stateAt T i)
-  loose-at i T h = every-at (Loose N k M) (state 0 0 0) loose-none i T (every-weaker (Shaped N k M) (Loose N k M) (λ s p. p .0) T h)
+  pub loose-at : (i : ℕ) (T : List State) → Every (Shaped N Z ts M) T → Loose N Z ts M (stateAt T i)
+  loose-at i T h = every-at (Loose N Z ts M) (state 0 0 0) loose-none i T (every-weaker (Shaped N Z ts M) (Loose N Z ts M) (λ s p. p .0) T h)
 
-  pub shaped-fold : (p : Pair) (w : Work) → Every (Shaped N k M) (w .table) → Every (Shaped N k M) (foldAt p w .table)
+  pub shaped-fold : (p : Pair) (w : Work) → Every (Shaped N Z ts M) (w .table) → Every (Shaped N Z ts M) (foldAt p w .table)
   unfolding foldAt
   shaped-fold p w h =
-      every-add (Shaped N k M) (shaped-plus N k M) _ (othersOf p (w .table))
+      every-add (Shaped N Z ts M) (shaped-plus N Z ts M) _ (othersOf p (w .table))
       (shaped-meet _ _ _ (loose-at (p .fewest) (w .table) h) (loose-at (p .partner) (remove (p .fewest) (w .table)) out), tt)
-      (every-remove (Shaped N k M) (p .partner) (remove (p .fewest) (w .table)) out)
+      (every-remove (Shaped N Z ts M) (p .partner) (remove (p .fewest) (w .table)) out)
     where
-      out : Every (Shaped N k M) (remove (p .fewest) (w .table))
-      out = every-remove (Shaped N k M) (p .fewest) (w .table) h
+      out : Every (Shaped N Z ts M) (remove (p .fewest) (w .table))
+      out = every-remove (Shaped N Z ts M) (p .fewest) (w .table) h
 
 -- ---- folds
 
@@ -130,8 +131,8 @@ folded-aside K w h = folded-keeps (λ v. v .aside ≤ whole) (λ p v l. rw (fold
 pub rising-folded : (K : ℕ) (w : Work) → Rising (w .table) → Rising (folded K w .table)
 rising-folded K w h = folded-keeps (λ v. Rising (v .table)) rising-fold K w h
 
-pub shaped-folded : (N k M K : ℕ) (w : Work) → Every (Shaped N k M) (w .table) → Every (Shaped N k M) (folded K w .table)
-shaped-folded N k M K w h = folded-keeps (λ v. Every (Shaped N k M) (v .table)) (shaped-fold N k M) K w h
+pub shaped-folded : (N Z : ℕ) (ts : List ℕ) (M K : ℕ) (w : Work) → Every (Shaped N Z ts M) (w .table) → Every (Shaped N Z ts M) (folded K w .table)
+shaped-folded N Z ts M K w h = folded-keeps (λ v. Every (Shaped N Z ts M) (v .table)) (shaped-fold N Z ts M) K w h
 
 -- ---- to K states
 

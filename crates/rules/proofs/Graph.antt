@@ -15,7 +15,7 @@ use Rattle.basics.specs.Sums.{sumOver}
 use Rattle.basics.proofs.Bools.{or-cases, or-left, or-right}
 use Rattle.basics.proofs.Sums.{sum-append}
 use Rattle.rules.specs.Units.{whole}
-use Rattle.rules.specs.Contents.{among, find}
+use Rattle.rules.specs.Contents.{among, targetOf}
 use Rattle.rules.specs.Input.{Input, nodes, offset, runOf, edgesOf, predecessors}
 use Rattle.rules.specs.Table.{State, begin, Work}
 use Rattle.rules.specs.Run.{run}
@@ -61,20 +61,20 @@ first-and-others P a is h = (h a (or-left (eqb a a) _ (eq-eqb a a refl)), λ j e
 pub first-or-other : (P : ℕ → Type 0) (a : ℕ) (is : List ℕ) → P a → ((j : ℕ) → among is j ≡ true → P j) → (j : ℕ) → among (a ∷ is) j ≡ true → P j
 first-or-other P a is p q j e = ⊎-elim (λ h. subst P (eqb-true a j h) p) (q j) (or-cases (eqb a j) (among is j) e)
 
-module _ (N k K : ℕ) (some : 0 < N) (room : 0 < K) (M : ℕ) (d : Worked) where
-  pub table-joinAll : (is : List ℕ) (w : Work) → ((j : ℕ) → among is j ≡ true → Table N k K M (tableAt d j))
-      → Table N k K M (w .table) → Table N k K M (joinAll K d is w .table)
+module _ (N Z : ℕ) (ts : List ℕ) (K : ℕ) (some : 0 < N) (room : 0 < K) (M : ℕ) (d : Worked) where
+  pub table-joinAll : (is : List ℕ) (w : Work) → ((j : ℕ) → among is j ≡ true → Table N Z ts K M (tableAt d j))
+      → Table N Z ts K M (w .table) → Table N Z ts K M (joinAll K d is w .table)
   unfolding joinAll
   table-joinAll [] w h t = t
   table-joinAll (a ∷ is) w h t =
-      let (p, q) = first-and-others (λ j. Table N k K M (tableAt d j)) a is h in
-      table-joinAll is _ q (table-join N k K some room M (w .table) (tableAt d a) (w .aside) t p)
+      let (p, q) = first-and-others (λ j. Table N Z ts K M (tableAt d j)) a is h in
+      table-joinAll is _ q (table-join N Z ts K some room M (w .table) (tableAt d a) (w .aside) t p)
 
-  pub table-enter : (is : List ℕ) → ((j : ℕ) → among is j ≡ true → Table N k K M (tableAt d j)) → Table N k K M (enter K d is .table)
+  pub table-enter : (is : List ℕ) → ((j : ℕ) → among is j ≡ true → Table N Z ts K M (tableAt d j)) → Table N Z ts K M (enter K d is .table)
   unfolding enter
-  table-enter [] h = table-wider N k K 0 M begin (omega arith) (table-begin N k K some room)
+  table-enter [] h = table-wider N Z ts K 0 M begin (omega arith) (table-begin N Z ts K some room)
   table-enter (a ∷ is) h =
-      let (p, q) = first-and-others (λ j. Table N k K M (tableAt d j)) a is h in
+      let (p, q) = first-and-others (λ j. Table N Z ts K M (tableAt d j)) a is h in
       table-joinAll is _ q p
 
 -- ---- the set-aside count, which stops at WHOLE
@@ -90,16 +90,16 @@ module _ (K : ℕ) (d : Worked) where
   aside-enter [] h = h
   aside-enter (a ∷ is) h = aside-joinAll is _ h
 
-aside-run : (N K : ℕ) → 0 < N → 0 < K → (ts bs : List ℕ) (w : Work) → w .aside ≤ whole → run N K ts bs w .aside ≤ whole
+aside-run : (N Z K : ℕ) → 0 < N → 0 < K → (ts bs : List ℕ) (w : Work) → w .aside ≤ whole → run N Z K ts bs w .aside ≤ whole
 unfolding run
-aside-run N K some room ts [] w h = h
-aside-run N K some room ts (b ∷ bs) w h = aside-run N K some room ts bs _ (advance-aside N 0 K some room (find ts b) w)
+aside-run N Z K some room ts [] w h = h
+aside-run N Z K some room ts (b ∷ bs) w h = aside-run N Z K some room ts bs _ (advance-aside N Z ts K some room (targetOf Z ts b) w)
 
 pub aside-worked : (i : Input) → 0 < i .ways → 0 < i .limit → (n : ℕ) → worked i n .aside ≤ whole
 unfolding worked node
 aside-worked i some room zero = omega arith
 aside-worked i some room (suc n) =
-    aside-run (i .ways) (i .limit) some room (i .tracked) (runOf i n) _ (aside-enter (i .limit) (worked i n) (predecessors (edgesOf (i .edges)) n) (aside-worked i some room n))
+    aside-run (i .ways) (i .sets) (i .limit) some room (i .tracked) (runOf i n) _ (aside-enter (i .limit) (worked i n) (predecessors (edgesOf (i .edges)) n) (aside-worked i some room n))
 
 -- ---- the runs
 
@@ -148,7 +148,7 @@ module _ (i : Input) (ok : Checked i) where
           step n l (λ a e. let a<n = predecessor-lower i ok a n e .0 in lower m a (omega (arith, a<n)) (omega (arith, a<n)))
 
   abbrev pub NodeTable : ℕ → ℕ → Type 0
-  NodeTable M j = Table (i .ways) (length (i .tracked)) (i .limit) M (nodeTable i j)
+  NodeTable M j = Table (i .ways) (i .sets) (i .tracked) (i .limit) M (nodeTable i j)
 
   -- a node whose predecessors' tables are tables of at most M misses
   pub table-node : (M n : ℕ) → n < nodes i → ((a : ℕ) → among (predecessors (edgesOf (i .edges)) n) a ≡ true → NodeTable M a)
@@ -156,8 +156,8 @@ module _ (i : Input) (ok : Checked i) where
   unfolding node
   table-node M n l h =
       rw (← run-long i ok n l)
-      (table-run (i .ways) (i .limit) (i .tracked) (ok .some-ways) (ok .some-states) M (runOf i n) _
-      (table-enter (i .ways) (length (i .tracked)) (i .limit) (ok .some-ways) (ok .some-states) M (worked i n) (predecessors (edgesOf (i .edges)) n)
+      (table-run (i .ways) (i .sets) (i .limit) (i .tracked) (ok .some-ways) (ok .some-states) M (runOf i n) _
+      (table-enter (i .ways) (i .sets) (i .tracked) (i .limit) (ok .some-ways) (ok .some-states) M (worked i n) (predecessors (edgesOf (i .edges)) n)
       (λ a e. rw (table-stays i n a (predecessor-lower i ok a n e .0)) (h a e))))
 
   -- a table's misses are at most the accesses up to the end of its node's run
@@ -166,13 +166,13 @@ module _ (i : Input) (ok : Checked i) where
       each-node (λ n. NodeTable (offset (i .lengths) (suc n)) n)
       (λ n l h. rw (offset-next (i .lengths) n l)
       (table-node (offset (i .lengths) n) n l
-      (λ a e. table-wider _ _ _ _ _ (nodeTable i a) (offset-rises (i .lengths) (suc a) n (predecessor-lower i ok a n e .0)) (h a e))))
+      (λ a e. table-wider _ _ _ _ _ _ (nodeTable i a) (offset-rises (i .lengths) (suc a) n (predecessor-lower i ok a n e .0)) (h a e))))
 
   -- the misses of the first n nodes are at most the accesses of their runs
   pub every-node : (n : ℕ) → n ≤ nodes i → (j : ℕ) → j < n → NodeTable (offset (i .lengths) n) j
-  every-node n l j k = table-wider _ _ _ _ _ (nodeTable i j) (offset-rises (i .lengths) (suc j) n k) (table-so-far j (omega arith))
+  every-node n l j k = table-wider _ _ _ _ _ _ (nodeTable i j) (offset-rises (i .lengths) (suc j) n k) (table-so-far j (omega arith))
 
   -- in all, at most the accesses
   pub node-table : (j : ℕ) → j < nodes i → NodeTable (length (i .accesses)) j
   node-table j l =
-      table-wider _ _ _ _ _ (nodeTable i j) (omega (arith, offset-most (i .lengths) (suc j), ok .all-accesses)) (table-so-far j l)
+      table-wider _ _ _ _ _ _ (nodeTable i j) (omega (arith, offset-most (i .lengths) (suc j), ok .all-accesses)) (table-so-far j l)

@@ -91,15 +91,15 @@ pub rising-paired : (P : List Match) (S T : List State) → Rising (paired P S T
 unfolding paired
 rising-paired P S T = rising-add (map (matched S T) P) [] tt
 
-pub shaped-paired : (N k M : ℕ) (P : List Match) (S T : List State) → Every (Shaped N k M) S → Every (Shaped N k M) T
-    → Every (Shaped N k M) (paired P S T)
+pub shaped-paired : (N Z : ℕ) (ts : List ℕ) (M : ℕ) (P : List Match) (S T : List State) → Every (Shaped N Z ts M) S → Every (Shaped N Z ts M) T
+    → Every (Shaped N Z ts M) (paired P S T)
 unfolding paired
-shaped-paired N k M P S T a b =
-    every-add (Shaped N k M) (shaped-plus N k M) (map (matched S T) P) [] (met P) tt
+shaped-paired N Z ts M P S T a b =
+    every-add (Shaped N Z ts M) (shaped-plus N Z ts M) (map (matched S T) P) [] (met P) tt
   where
-    met : (P : List Match) → Every (λ s. unitsOf s ≢ 0 → Shaped N k M s) (map (matched S T) P)
+    met : (P : List Match) → Every (λ s. unitsOf s ≢ 0 → Shaped N Z ts M s) (map (matched S T) P)
     met [] = tt
-    met (m ∷ P) = (shaped-meet N k M _ _ (m .units) (loose-at N k M (m .left) S a) (loose-at N k M (m .right) T b), met P)
+    met (m ∷ P) = (shaped-meet N Z ts M _ _ (m .units) (loose-at N Z ts M (m .left) S a) (loose-at N Z ts M (m .right) T b), met P)
 
 -- ---- the walk from the front
 
@@ -238,9 +238,9 @@ pub rising-join : (S T : List State) → Rising (join S T)
 unfolding join
 rising-join S T = rising-paired (fromFront S T) S T
 
-pub shaped-join : (N k M : ℕ) (S T : List State) → Every (Shaped N k M) S → Every (Shaped N k M) T → Every (Shaped N k M) (join S T)
+pub shaped-join : (N Z : ℕ) (ts : List ℕ) (M : ℕ) (S T : List State) → Every (Shaped N Z ts M) S → Every (Shaped N Z ts M) T → Every (Shaped N Z ts M) (join S T)
 unfolding join
-shaped-join N k M S T a b = shaped-paired N k M (fromFront S T) S T a b
+shaped-join N Z ts M S T a b = shaped-paired N Z ts M (fromFront S T) S T a b
 
 -- there are at most as many pairs as states
 length-walk : (n i j : ℕ) (S T : List State) → length (walk n i j S T) ≤ n

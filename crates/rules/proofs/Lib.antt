@@ -6,6 +6,7 @@ pub mod Lists
 pub mod Bits
 pub mod Contents
 pub mod Lookup
+pub mod Sets
 -- Tables
 pub mod Ordered
 pub mod Table

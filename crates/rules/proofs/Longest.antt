@@ -125,10 +125,10 @@ module _ (i : Input) (ok : Checked i) where
 
 -- ---- the misses
 
-shaped-largest : (N k M : ℕ) (T : List State) → Every (Shaped N k M) T → largest T ≤ M
+shaped-largest : (N Z : ℕ) (ts : List ℕ) (M : ℕ) (T : List State) → Every (Shaped N Z ts M) T → largest T ≤ M
 unfolding largest
-shaped-largest N k M [] h = zero-le
-shaped-largest N k M (s ∷ T) h = max-le (h .0 .0 .few) (shaped-largest N k M T (h .1))
+shaped-largest N Z ts M [] h = zero-le
+shaped-largest N Z ts M (s ∷ T) h = max-le (h .0 .0 .few) (shaped-largest N Z ts M T (h .1))
 
 module _ (i : Input) (ok : Checked i) where
   -- a table's misses are at most the accesses of the longest path to its node
@@ -136,10 +136,10 @@ module _ (i : Input) (ok : Checked i) where
   table-within =
       each-node i ok (λ n. NodeTable i ok (upTo i n) n)
       (λ n l h. rw (add-comm (longestBefore i n) (getD (i .lengths) n 0))
-      (table-node i ok (longestBefore i n) n l (λ a e. table-wider _ _ _ _ _ (nodeTable i a) (before-each i ok n a e) (h a e))))
+      (table-node i ok (longestBefore i n) n l (λ a e. table-wider _ _ _ _ _ _ (nodeTable i a) (before-each i ok n a e) (h a e))))
 
   -- and so are the finished table's those of the longest path
   pub finished-within : largest (finished i .table) ≤ longest i
   finished-within =
       rw (finished-table i (ok .some-nodes), longest-is i (ok .some-nodes))
-      (shaped-largest _ _ _ (nodeTable i (nodes i - 1)) (table-within (nodes i - 1) (omega (arith, ok .some-nodes)) .shaped))
+      (shaped-largest _ _ _ _ (nodeTable i (nodes i - 1)) (table-within (nodes i - 1) (omega (arith, ok .some-nodes)) .shaped))

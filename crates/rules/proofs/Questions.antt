@@ -268,28 +268,28 @@ smallest-is u T B serves none =
 
 -- ---- what is accepted as a table
 
-all-fit : (N k M : ℕ) (T : List State) → k ≤ 16 → M ≤ 4096 → Every (Shaped N k M) T → allFitting T ≡ true
-all-fit N k M [] a b h = refl
-all-fit N k M (s ∷ T) a b h =
+all-fit : (N Z : ℕ) (ts : List ℕ) (M : ℕ) (T : List State) → length ts ≤ 16 → M ≤ 4096 → Every (Shaped N Z ts M) T → allFitting T ≡ true
+all-fit N Z ts M [] a b h = refl
+all-fit N Z ts M (s ∷ T) a b h =
     both (fitting s) (allFitting T)
     (both (leb (s .mask) 65535 && leb (s .misses) 4096) _
     (both (leb (s .mask) 65535) _ (le-leb (s .mask) 65535 (omega (arith, h .0 .0 .masked, wide)))
     (le-leb (s .misses) 4096 (le-trans (h .0 .0 .few) b)))
     (le-leb 1 (unitsOf s) (h .0 .1)))
-    (all-fit N k M T a b (h .1))
+    (all-fit N Z ts M T a b (h .1))
   where
-    wide : 2 ^ k ≤ 2 ^ 16
+    wide : 2 ^ length ts ≤ 2 ^ 16
     wide = pow-mono a
 
-pub table-is : (N k K M : ℕ) (T : List State) → k ≤ 16 → K ≤ 64 → M ≤ 4096 → Table N k K M T → isTable T ≡ true
+pub table-is : (N Z : ℕ) (ts : List ℕ) (K M : ℕ) (T : List State) → length ts ≤ 16 → K ≤ 64 → M ≤ 4096 → Table N Z ts K M T → isTable T ≡ true
 unfolding isTable total
-table-is N k K M T a b c t =
+table-is N Z ts K M T a b c t =
     both _ (eqb (total T) whole)
     (both _ (allFitting T)
     (both _ (rising T)
     (both _ (leb (length T) 64) (le-leb 1 (length T) (some T (t .full))) (le-leb (length T) 64 (le-trans (t .short) b)))
     (t .rises))
-    (all-fit N k M T a c (t .shaped)))
+    (all-fit N Z ts M T a c (t .shaped)))
     (eq-eqb (total T) whole (t .full))
   where
     some : (T : List State) → sumOver unitsOf T ≡ whole → 1 ≤ length T
@@ -297,7 +297,7 @@ table-is N k K M T a b c t =
     some (s ∷ T) e = omega arith
 
 -- the finished table of an accepted input
-finished-good : (i : Input) → Checked i → Table (i .ways) (length (i .tracked)) (i .limit) (length (i .accesses)) (finished i .table)
+finished-good : (i : Input) → Checked i → Table (i .ways) (i .sets) (i .tracked) (i .limit) (length (i .accesses)) (finished i .table)
 finished-good i ok =
     rw (finished-table i (ok .some-nodes)) (node-table i ok (nodes i - 1) (omega (arith, ok .some-nodes)))
 
@@ -307,7 +307,7 @@ finished-whole i h = finished-good i (accepted i h) .full
 pub finished-is-table : (i : Input) → outcomeSays (outcome i) .number ≡ 0 → isTable (finished i .table) ≡ true
 finished-is-table i h =
     let ok = accepted i h in
-    table-is _ _ _ _ (finished i .table) (ok .few-tracked) (ok .few-states) (ok .few-accesses) (finished-good i ok)
+    table-is _ _ _ _ _ (finished i .table) (ok .few-tracked) (ok .few-states) (ok .few-accesses) (finished-good i ok)
 
 -- ---- the answers
 

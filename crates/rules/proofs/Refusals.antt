@@ -12,7 +12,7 @@ use borrow.Author.Tests.{ltb-true, ltb-false, eqb-true, not-false}
 use Rattle.basics.specs.Sums.{sumOver}
 use Rattle.basics.proofs.Bools.{and-left, and-right, or-cases, not-left, not-right}
 use Rattle.rules.specs.declared.Refusal.{Refusal}
-use Rattle.rules.specs.declared.Refusal.the-variants.{Text, Ways, Limit, Tracked, Accesses, Graph, Room, Row, SpreadRoom, NoCore}
+use Rattle.rules.specs.declared.Refusal.the-variants.{Text, Ways, Limit, Tracked, Accesses, Graph, Room, Row, SpreadRoom, Sets, NoCore}
 use Rattle.rules.specs.declared.Verdict.{Verdict}
 use Rattle.rules.specs.declared.Verdict.the-variants.{Accepted, Refused}
 use Rattle.rules.specs.Answers.{numberOf, Reason, first, verdictSays, outcomeSays}
@@ -20,8 +20,9 @@ use Rattle.rules.specs.Contents.{among, once}
 use Rattle.rules.specs.Ordered.{before, byNumber, rises}
 use Rattle.rules.specs.Input.{Input, nodes, Edge, edgesOf, predecessors}
 use Rattle.rules.specs.Graph.{finished}
-use Rattle.rules.specs.Refusals.{outside, forward, inPairs, edgeOrder, eachBelow, hasEdgeIn, hasEdgeOut, edgesKept, reasons, verdict, answered, outcome}
+use Rattle.rules.specs.Refusals.{outside, forward, inPairs, edgeOrder, eachBelow, hasEdgeIn, hasEdgeOut, edgesKept, setCounts, reasons, verdict, answered, outcome}
 use Rattle.rules.specs.Shape.{Every}
+use Rattle.rules.proofs.Lookup.{among-every}
 use Rattle.rules.proofs.Ordered.{InOrder, in-order-rises, rises-in-order, number-before, two-before, two-onward}
 
 -- ---- no reason applies
@@ -36,6 +37,7 @@ numbered Graph e = omega arith
 numbered Room e = omega arith
 numbered Row e = omega arith
 numbered SpreadRoom e = omega arith
+numbered Sets e = omega arith
 numbered NoCore e = omega arith
 
 pub none-applies : (rs : List Reason) → verdictSays (first rs) ≡ 0 → Every (λ r. r .applies ≡ false) rs
@@ -52,6 +54,8 @@ none-applies (r ∷ rs) h = go (r .applies) refl h (none-applies rs)
 pub record Checked (i : Input) : Type 0 where
   pub some-ways : 0 < i .ways
   pub few-ways : i .ways ≤ 16
+  pub known-sets : among setCounts (i .sets) ≡ true
+  pub some-sets : 0 < i .sets
   pub some-states : 0 < i .limit
   pub few-states : i .limit ≤ 64
   pub few-tracked : length (i .tracked) ≤ 16
@@ -68,18 +72,25 @@ pub within : (low high n : ℕ) → outside low high n ≡ false → (low ≤ n)
 within low high n h =
     (ltb-false n low (not-left (ltb n low) (ltb high n) h), ltb-false high n (not-right (ltb n low) (ltb high n) h))
 
+-- there is no set count of 0
+pub counts-some : (n : ℕ) → among setCounts n ≡ true → 0 < n
+counts-some n h = among-every (λ m. 0 < m) setCounts n h (omega arith, (omega arith, (omega arith, (omega arith, (omega arith, tt)))))
+
 -- an input is accepted where the call's answer carries no refusal's number
 pub accepted : (i : Input) → outcomeSays (outcome i) .number ≡ 0 → Checked i
 unfolding outcome verdict reasons
 accepted i h =
-    let (w, (k, (t, (a, (g, (r, _)))))) = none-applies (reasons i) (says (first (reasons i)) h) in
+    let (w, (n, (k, (t, (a, (g, (r, _))))))) = none-applies (reasons i) (says (first (reasons i)) h) in
     let ways = within 1 16 (i .ways) w in
+    let sets = not-false _ n in
     let limit = within 1 64 (i .limit) k in
     let g₁ = not-left (unnumbered || uneven) broken g in
     let count = within 1 64 (nodes i) (not-left unnumbered uneven g₁) in
     record {
       some-ways = ways .0;
       few-ways = ways .1;
+      known-sets = sets;
+      some-sets = counts-some (i .sets) sets;
       some-states = limit .0;
       few-states = limit .1;
       few-tracked = ltb-false 16 (length (i .tracked)) (not-left crowded twice t);

@@ -8,6 +8,7 @@ use native.Mathlib.Nat.{le-refl}
 use native.Mathlib.Omega.{arith}
 use borrow.Author.Tests.{le-ltb}
 use lib.ListN.{length}
+use Rattle.rules.specs.declared.Cache.{Cache}
 use Rattle.rules.specs.declared.Verdict.{Verdict}
 use Rattle.rules.specs.declared.Verdict.the-variants.{Accepted, Refused}
 use Rattle.rules.specs.declared.Outcome.the-variants.{Finished}
@@ -22,30 +23,30 @@ answered-alike : (v : Verdict) (i j : Input) → finished i ≡ finished j → a
 answered-alike Accepted i j e = ap (λ (d : Work). Finished (length (d .table)) (units (d .aside))) e
 answered-alike (Refused r) i j e = refl
 
-module _ (N K : ℕ) (ts ns bs es : List ℕ) (r w : ℕ) where
-  pub same-worked : (n : ℕ) → worked (inputOf N K ts ns bs es) n ≡ worked (inputIn N K ts ns bs es r w) n
+module _ (c : Cache) (K : ℕ) (ts ns bs es : List ℕ) (r w : ℕ) where
+  pub same-worked : (n : ℕ) → worked (inputOf c K ts ns bs es) n ≡ worked (inputIn c K ts ns bs es r w) n
   unfolding worked node runOf
   same-worked zero = refl
   same-worked (suc n) =
-      ap (λ (d : Worked). let v = node (inputIn N K ts ns bs es r w) n d in record { tables = d .tables ++ (v .table ∷ []); aside = v .aside }) (same-worked n)
+      ap (λ (d : Worked). let v = node (inputIn c K ts ns bs es r w) n d in record { tables = d .tables ++ (v .table ∷ []); aside = v .aside }) (same-worked n)
 
-  pub same-finished : finished (inputOf N K ts ns bs es) ≡ finished (inputIn N K ts ns bs es r w)
+  pub same-finished : finished (inputOf c K ts ns bs es) ≡ finished (inputIn c K ts ns bs es r w)
   unfolding finished
   same-finished = ap (λ (d : Worked). record { table = tableAt d (length ns - 1); aside = d .aside }) (same-worked (length ns))
 
   module _ (result : 64 ≤ r) (working : 5184 ≤ w) where
-    same-verdict : verdict (inputOf N K ts ns bs es) ≡ verdict (inputIn N K ts ns bs es r w)
+    same-verdict : verdict (inputOf c K ts ns bs es) ≡ verdict (inputIn c K ts ns bs es r w)
     unfolding verdict reasons
     same-verdict = go (outside 1 64 K) refl
       where
-        go : (b : Bool) → outside 1 64 K ≡ b → verdict (inputOf N K ts ns bs es) ≡ verdict (inputIn N K ts ns bs es r w)
+        go : (b : Bool) → outside 1 64 K ≡ b → verdict (inputOf c K ts ns bs es) ≡ verdict (inputIn c K ts ns bs es r w)
         go true e = rw e
         go false e =
             let few : K ≤ 64 = within 1 64 K e .1 in
             rw (le-ltb K K (le-refl K), le-ltb r K (omega arith), le-ltb w 5184 working)
 
-    pub same-outcome : outcome (inputOf N K ts ns bs es) ≡ outcome (inputIn N K ts ns bs es r w)
+    pub same-outcome : outcome (inputOf c K ts ns bs es) ≡ outcome (inputIn c K ts ns bs es r w)
     unfolding outcome
     same-outcome =
-        ap (λ (v : Verdict). answered v (inputOf N K ts ns bs es)) same-verdict
-        ∙ answered-alike (verdict (inputIn N K ts ns bs es r w)) (inputOf N K ts ns bs es) (inputIn N K ts ns bs es r w) same-finished
+        ap (λ (v : Verdict). answered v (inputOf c K ts ns bs es)) same-verdict
+        ∙ answered-alike (verdict (inputIn c K ts ns bs es r w)) (inputOf c K ts ns bs es) (inputIn c K ts ns bs es r w) same-finished

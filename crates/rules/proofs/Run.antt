@@ -8,96 +8,92 @@ use native.Mathlib.Omega.{arith}
 use lib.ListN.{length}
 use lib.Pow.{pow-pos}
 use Rattle.rules.specs.Units.{whole}
-use Rattle.rules.specs.Contents.{Place, size, find}
+use Rattle.rules.specs.Contents.{Target, size, atRisk, targetOf}
 use Rattle.rules.specs.Table.{State, begin, present, total, Work}
 use Rattle.rules.specs.Step.{successors, access}
 use Rattle.rules.specs.Fold.{folded}
 use Rattle.rules.specs.Run.{advance, run}
 use Rattle.rules.specs.Join.{join}
-use Rattle.rules.specs.Shape.{Every, Listed, Shaped, Table}
+use Rattle.rules.specs.Shape.{Every, Aimed, Shaped, Table}
 use Rattle.rules.proofs.Lists.{every-weaker}
 use Rattle.rules.proofs.Splitting.{more-most}
-use Rattle.rules.proofs.Contents.{size-zero}
-use Rattle.rules.proofs.Lookup.{find-at}
+use Rattle.rules.proofs.Sets.{aimed, room-zero, room-risk}
 use Rattle.rules.proofs.Table.{Rising, rising-is, rising-add, length-add}
 use Rattle.rules.proofs.Step.{Fits, access-shaped, access-total, length-access}
 use Rattle.rules.proofs.Fold.{folded-aside, rising-folded, shaped-folded, folded-total, length-folded}
 use Rattle.rules.proofs.Join.{rising-join, shaped-join, join-total}
 
-pub fits-shaped : (N k M : ℕ) (T : List State) → Every (Shaped N k M) T → Fits N T
-fits-shaped N k M T h = every-weaker (Shaped N k M) (λ s. size (s .mask) ≤ N) (λ s p. p .0 .small) T h
+pub fits-shaped : (N Z : ℕ) (ts : List ℕ) (M : ℕ) (T : List State) → Every (Shaped N Z ts M) T → (x : Target) → Aimed Z ts x → Fits N x T
+fits-shaped N Z ts M T h x aim =
+    every-weaker (Shaped N Z ts M) (λ s. size (atRisk x (s .mask)) ≤ N) (λ s p. room-risk N Z ts x aim (s .mask) (p .0 .small)) T h
 
-pub table-fits : (N k K M : ℕ) (T : List State) → Table N k K M T → Fits N T
-table-fits N k K M T t = fits-shaped N k M T (t .shaped)
+pub table-fits : (N Z : ℕ) (ts : List ℕ) (K M : ℕ) (T : List State) → Table N Z ts K M T → (x : Target) → Aimed Z ts x → Fits N x T
+table-fits N Z ts K M T t x aim = fits-shaped N Z ts M T (t .shaped) x aim
 
-pub table-wider : (N k K M L : ℕ) (T : List State) → M ≤ L → Table N k K M T → Table N k K L T
-table-wider N k K M L T l t =
+pub table-wider : (N Z : ℕ) (ts : List ℕ) (K M L : ℕ) (T : List State) → M ≤ L → Table N Z ts K M T → Table N Z ts K L T
+table-wider N Z ts K M L T l t =
     record {
       rises = t .rises;
       short = t .short;
-      shaped = every-weaker (Shaped N k M) (Shaped N k L)
+      shaped = every-weaker (Shaped N Z ts M) (Shaped N Z ts L)
           (λ s p. (record { masked = p .0 .masked; few = le-trans (p .0 .few) l; small = p .0 .small }, p .1)) T (t .shaped);
       full = t .full;
     }
 
-module _ (N k K : ℕ) (some : 0 < N) (room : 0 < K) where
-  pub table-begin : Table N k K 0 begin
+module _ (N Z : ℕ) (ts : List ℕ) (K : ℕ) (some : 0 < N) (room : 0 < K) where
+  pub table-begin : Table N Z ts K 0 begin
   unfolding total
   table-begin =
       record {
         rises = refl;
         short = omega arith;
-        shaped = ((record { masked = pow-pos k; few = omega arith; small = omega (arith, size-zero) }, omega arith), tt);
+        shaped = ((record { masked = pow-pos (length ts); few = omega arith; small = room-zero N Z ts }, omega arith), tt);
         full = refl;
       }
 
   -- folds make a table of at most K states of any rising list of shaped states that total WHOLE
-  pub table-folded : (M : ℕ) (w : Work) → Rising (w .table) → Every (Shaped N k M) (w .table) → total (w .table) ≡ whole
-      → Table N k K M (folded K w .table)
+  pub table-folded : (M : ℕ) (w : Work) → Rising (w .table) → Every (Shaped N Z ts M) (w .table) → total (w .table) ≡ whole
+      → Table N Z ts K M (folded K w .table)
   table-folded M w r s e =
       record {
         rises = rising-is (folded K w .table) (rising-folded K w r);
         short = length-folded K w room;
-        shaped = shaped-folded N k M K w s;
+        shaped = shaped-folded N Z ts M K w s;
         full = folded-total K w (omega arith) ∙ e;
       }
 
-  pub rising-access : (x : Place) (T : List State) → Rising (access N x T)
+  pub rising-access : (x : Target) (T : List State) → Rising (access N x T)
   unfolding access
   rising-access x T = rising-add _ [] tt
 
-  pub advance-aside : (x : Place) (w : Work) → advance N K x w .aside ≤ whole
+  pub advance-aside : (x : Target) (w : Work) → advance N K x w .aside ≤ whole
   unfolding advance
   advance-aside x w = folded-aside K _ (more-most _ _)
 
-  pub table-advance : (M : ℕ) (x : Place) (w : Work) → Listed k x → Table N k K M (w .table) → Table N k K (suc M) (advance N K x w .table)
+  pub table-advance : (M : ℕ) (x : Target) (w : Work) → Aimed Z ts x → Table N Z ts K M (w .table) → Table N Z ts K (suc M) (advance N K x w .table)
   unfolding advance
   table-advance M x w l t =
-      table-folded (suc M) _ (rising-access x (w .table)) (access-shaped N k M x some l (w .table) (t .shaped))
-      (access-total N x some (w .table) (table-fits N k K M (w .table) t) (omega (arith, t .full)) ∙ t .full)
+      table-folded (suc M) _ (rising-access x (w .table)) (access-shaped N Z ts M x some l (w .table) (t .shaped))
+      (access-total N x some (w .table) (table-fits N Z ts K M (w .table) t x l) (omega (arith, t .full)) ∙ t .full)
 
-  pub table-join : (M : ℕ) (S T : List State) (a : ℕ) → Table N k K M S → Table N k K M T
-      → Table N k K M (folded K (record { table = join S T; aside = a }) .table)
+  pub table-join : (M : ℕ) (S T : List State) (a : ℕ) → Table N Z ts K M S → Table N Z ts K M T
+      → Table N Z ts K M (folded K (record { table = join S T; aside = a }) .table)
   table-join M S T a s t =
-      table-folded M _ (rising-join S T) (shaped-join N k M S T (s .shaped) (t .shaped)) (join-total S T (s .full ∙ sym (t .full)) (omega (arith, s .full)) ∙ s .full)
+      table-folded M _ (rising-join S T) (shaped-join N Z ts M S T (s .shaped) (t .shaped)) (join-total S T (s .full ∙ sym (t .full)) (omega (arith, s .full)) ∙ s .full)
 
 -- an access lists at most 17 × K states before adding, and so gives no more
-pub access-room : (N k K M : ℕ) (x : Place) (T : List State) → N ≤ 16 → Table N k K M T → length (present (flatMap (successors N x) T)) ≤ 17 * K
-access-room N k K M x T few t =
-    omega (arith, length-access N x T (table-fits N k K M T t), mul-le-mul (t .short) (suc-le-suc few))
+pub access-room : (N Z : ℕ) (ts : List ℕ) (K M : ℕ) (x : Target) (T : List State) → N ≤ 16 → Aimed Z ts x → Table N Z ts K M T → length (present (flatMap (successors N x) T)) ≤ 17 * K
+access-room N Z ts K M x T few aim t =
+    omega (arith, length-access N x T (table-fits N Z ts K M T t x aim), mul-le-mul (t .short) (suc-le-suc few))
 
-pub access-length : (N k K M : ℕ) (x : Place) (T : List State) → N ≤ 16 → Table N k K M T → length (access N x T) ≤ 17 * K
+pub access-length : (N Z : ℕ) (ts : List ℕ) (K M : ℕ) (x : Target) (T : List State) → N ≤ 16 → Aimed Z ts x → Table N Z ts K M T → length (access N x T) ≤ 17 * K
 unfolding access
-access-length N k K M x T few t = omega (arith, length-add (flatMap (successors N x) T) [], access-room N k K M x T few t)
+access-length N Z ts K M x T few aim t = omega (arith, length-add (flatMap (successors N x) T) [], access-room N Z ts K M x T few aim t)
 
--- a block that is looked up stands at one of the places, or at none
-pub find-listed : (ts : List ℕ) (b : ℕ) → Listed (length ts) (find ts b)
-find-listed ts b i e = find-at ts b i e .0
-
-module _ (N K : ℕ) (ts : List ℕ) (some : 0 < N) (room : 0 < K) where
-  pub table-run : (M : ℕ) (bs : List ℕ) (w : Work) → Table N (length ts) K M (w .table) → Table N (length ts) K (length bs + M) (run N K ts bs w .table)
+module _ (N Z K : ℕ) (ts : List ℕ) (some : 0 < N) (room : 0 < K) where
+  pub table-run : (M : ℕ) (bs : List ℕ) (w : Work) → Table N Z ts K M (w .table) → Table N Z ts K (length bs + M) (run N Z K ts bs w .table)
   unfolding run
   table-run M [] w t = rw (zero-add M) t
   table-run M (b ∷ bs) w t =
       rw (suc-add (length bs) M, ← add-suc (length bs) M)
-      (table-run (suc M) bs (advance N K (find ts b) w) (table-advance N (length ts) K some room M (find ts b) w (find-listed ts b) t))
+      (table-run (suc M) bs (advance N K (targetOf Z ts b) w) (table-advance N Z ts K some room M (targetOf Z ts b) w (aimed Z ts b) t))

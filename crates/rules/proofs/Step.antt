@@ -15,50 +15,54 @@ use lib.Pow.{pow-pos}
 use borrow.Author.Tests.{eq-eqb}
 use Rattle.basics.specs.Sums.{sumOver}
 use Rattle.basics.proofs.Sums.{sum-append, sum-map, sum-times, sum-each}
-use Rattle.rules.specs.Contents.{places, Place, bit, has, with, without, held, size}
+use Rattle.rules.specs.Contents.{places, Target, bit, has, with, without, held, size, atRisk}
 use Rattle.rules.specs.Units.{whole}
 use Rattle.rules.specs.Table.{State, unitsOf, plus, present, total}
 use Rattle.rules.specs.Step.{missed, miss, successors, leftOver, access}
-use Rattle.rules.specs.Shape.{Every, Listed, Shaped}
+use Rattle.rules.specs.Shape.{Every, Aimed, Room, Shaped}
 use Rattle.rules.proofs.Splitting.{more-least}
 use Rattle.rules.proofs.Lists.{every-append, every-map, every-flatMap}
-use Rattle.rules.proofs.Contents.{size-zero, size-with, size-moved, every-held, with-lt, without-lt}
+use Rattle.rules.proofs.Contents.{every-held, with-lt, without-lt}
+use Rattle.rules.proofs.Sets.{risk-sub, room-joined, room-moved, room-alone}
 use Rattle.rules.proofs.Table.{length-present-append, length-present, every-add, worthOf, worth, worth-add, total-add, one, worth-total}
 
 -- ---- worth
 
--- g summed over the N ways: a way that holds e of C leaves C without e, every other way leaves C
-abbrev pub overWays : ℕ → ℕ → (ℕ → ℕ) → ℕ
-overWays N C g = sumOver (λ e. g (without C e)) (held C) + (N - size C) * g C
+-- g summed over the N ways of a set: a way that holds e of E leaves C without e, every other way leaves C
+abbrev pub overWays : ℕ → ℕ → ℕ → (ℕ → ℕ) → ℕ
+overWays N C E g = sumOver (λ e. g (without C e)) (held E) + (N - size E) * g C
 
 -- what contents C with m misses are worth before an access of x, summed over the N ways, where f says what they are worth after it
-abbrev pub ahead : ℕ → Place → (ℕ → ℕ → ℕ) → ℕ → ℕ → ℕ
-ahead N x f C m = cond (has C x) (N * f C m) (overWays N C (λ D. f (with D x) (suc m)))
+abbrev pub ahead : ℕ → Target → (ℕ → ℕ → ℕ) → ℕ → ℕ → ℕ
+ahead N x f C m = cond (has C (x .place)) (N * f C m) (overWays N C (atRisk x C) (λ D. f (with D (x .place)) (suc m)))
 
-module _ (N : ℕ) (x : Place) (f : ℕ → ℕ → ℕ) where
+module _ (N : ℕ) (x : Target) (f : ℕ → ℕ → ℕ) where
   -- ahead of a state, and of the units that are left over
   abbrev pub aheadOf : State → ℕ
   aheadOf s = ahead N x f (s .mask) (s .misses)
 
   abbrev pub alone : State → ℕ
-  alone s = f (with 0 x) (suc (s .misses))
+  alone s = f (with 0 (x .place)) (suc (s .misses))
 
   worth-miss : (s : State) → worth f (miss N x s)
-      ≡ overWays N (s .mask) (λ D. f (with D x) (suc (s .misses))) * (unitsOf s / N) + unitsOf s % N * alone s
+      ≡ overWays N (s .mask) (atRisk x (s .mask)) (λ D. f (with D (x .place)) (suc (s .misses))) * (unitsOf s / N) + unitsOf s % N * alone s
   unfolding miss
   worth-miss s =
-      sum-append (worthOf f) (map (λ e. missed x s (without C e) q) (held C)) _
-      ∙ ap₂ _+_ (sum-map (worthOf f) (λ e. missed x s (without C e) q) (held C) ∙ sum-times q (λ e. g (without C e)) (held C)) refl
-      ∙ ring (N - size C) (sumOver (λ e. g (without C e)) (held C)) (g C) (unitsOf s % N * alone s)
+      sum-append (worthOf f) (map (λ e. missed x s (without C e) q) (held E)) _
+      ∙ ap₂ _+_ (sum-map (worthOf f) (λ e. missed x s (without C e) q) (held E) ∙ sum-times q (λ e. g (without C e)) (held E)) refl
+      ∙ ring (N - size E) (sumOver (λ e. g (without C e)) (held E)) (g C) (unitsOf s % N * alone s)
     where
       C : ℕ
       C = s .mask
+
+      E : ℕ
+      E = atRisk x C
 
       q : ℕ
       q = unitsOf s / N
 
       g : ℕ → ℕ
-      g D = f (with D x) (suc (s .misses))
+      g D = f (with D (x .place)) (suc (s .misses))
 
       ring : (d S y r : ℕ) → S * q + (d * q * y + (r + 0)) ≡ (S + d * y) * q + r
       ring d S y r = omega arith
@@ -66,10 +70,10 @@ module _ (N : ℕ) (x : Place) (f : ℕ → ℕ → ℕ) where
   worth-successors : (s : State)
       → N * worth f (successors N x s) + leftOver N x s * aheadOf s ≡ unitsOf s * aheadOf s + N * (leftOver N x s * alone s)
   unfolding successors leftOver
-  worth-successors s = go (has (s .mask) x)
+  worth-successors s = go (has (s .mask) (x .place))
     where
       S : ℕ
-      S = overWays N (s .mask) (λ D. f (with D x) (suc (s .misses)))
+      S = overWays N (s .mask) (atRisk x (s .mask)) (λ D. f (with D (x .place)) (suc (s .misses)))
 
       y : ℕ
       y = f (s .mask) (s .misses)
@@ -101,45 +105,45 @@ module _ (N : ℕ) (x : Place) (f : ℕ → ℕ → ℕ) where
 
 -- ---- the total
 
--- no contents hold more blocks than there are ways
-abbrev pub Fits : ℕ → List State → Type 0
-Fits N T = Every (λ s. size (s .mask) ≤ N) T
+-- no contents hold more blocks of the accessed set than it has ways
+abbrev pub Fits : ℕ → Target → List State → Type 0
+Fits N x T = Every (λ s. size (atRisk x (s .mask)) ≤ N) T
 
 -- the ways that are left, as a number of its own, so that no difference is multiplied
 pub others : (N n : ℕ) → n ≤ N → (r : ℕ) × (N ≡ n + r) × (N - n ≡ r)
 others N n h = (N - n, omega arith, refl)
 
 -- the same number for each way
-pub overWays-each : (N C y : ℕ) → size C ≤ N → overWays N C (λ D. y) ≡ N * y
+pub overWays-each : (N C E y : ℕ) → size E ≤ N → overWays N C E (λ D. y) ≡ N * y
 unfolding size
-overWays-each N C y h =
-    let (r, e, d) = others N (length (held C)) h in
-    rw d (omega (arith, sum-each y (held C), ap (λ (n : ℕ). n * y) e))
+overWays-each N C E y h =
+    let (r, e, d) = others N (length (held E)) h in
+    rw d (omega (arith, sum-each y (held E), ap (λ (n : ℕ). n * y) e))
 
-ahead-one : (N : ℕ) (x : Place) (C m : ℕ) → size C ≤ N → ahead N x one C m ≡ N
-ahead-one N x C m h = go (has C x)
+ahead-one : (N : ℕ) (x : Target) (C m : ℕ) → size (atRisk x C) ≤ N → ahead N x one C m ≡ N
+ahead-one N x C m h = go (has C (x .place))
   where
-    go : (a : Bool) → cond a (N * 1) (overWays N C (λ D. 1)) ≡ N
+    go : (a : Bool) → cond a (N * 1) (overWays N C (atRisk x C) (λ D. 1)) ≡ N
     go true = omega arith
-    go false = overWays-each N C 1 h ∙ omega arith
+    go false = overWays-each N C (atRisk x C) 1 h ∙ omega arith
 
-module _ (N : ℕ) (x : Place) (some : 0 < N) where
+module _ (N : ℕ) (x : Target) (some : 0 < N) where
   -- all units go on
-  successors-total : (T : List State) → Fits N T → total (flatMap (successors N x) T) ≡ total T
+  successors-total : (T : List State) → Fits N x T → total (flatMap (successors N x) T) ≡ total T
   successors-total T h =
       rw (← worth-total (flatMap (successors N x) T), ← worth-total T)
       (eq-of-mul-eq-mul-left N some _ _ (omega (arith, worth-all N x one T, units T h, shares T h)))
     where
-      units : (T : List State) → Fits N T → worth (ahead N x one) T ≡ N * worth one T
+      units : (T : List State) → Fits N x T → worth (ahead N x one) T ≡ N * worth one T
       units [] h = omega arith
       units (s ∷ T) h = rw (ahead-one N x (s .mask) (s .misses) (h .0)) (omega (arith, units T (h .1)))
 
-      shares : (T : List State) → Fits N T
+      shares : (T : List State) → Fits N x T
           → sumOver (λ s. leftOver N x s * aheadOf N x one s) T ≡ N * sumOver (λ s. leftOver N x s * 1) T
       shares [] h = omega arith
       shares (s ∷ T) h = rw (ahead-one N x (s .mask) (s .misses) (h .0)) (omega (arith, shares T (h .1)))
 
-  module _ (T : List State) (fits : Fits N T) (full : total T ≤ whole) where
+  module _ (T : List State) (fits : Fits N x T) (full : total T ≤ whole) where
     room-to-add : total (flatMap (successors N x) T) + total [] ≤ whole
     unfolding total
     room-to-add = omega (arith, successors-total T fits)
@@ -159,91 +163,98 @@ module _ (N : ℕ) (x : Place) (some : 0 < N) where
 
 -- ---- shape
 
-pub shaped-plus : (N k M : ℕ) (t s : State) → Shaped N k M t → Shaped N k M (plus t s)
-shaped-plus N k M t s h = (record { masked = h .0 .masked; few = h .0 .few; small = h .0 .small }, more-least (unitsOf t) (unitsOf s) (h .1))
+pub shaped-plus : (N Z : ℕ) (ts : List ℕ) (M : ℕ) (t s : State) → Shaped N Z ts M t → Shaped N Z ts M (plus t s)
+shaped-plus N Z ts M t s h = (record { masked = h .0 .masked; few = h .0 .few; small = h .0 .small }, more-least (unitsOf t) (unitsOf s) (h .1))
 
-module _ (N k M : ℕ) (x : Place) (some : 0 < N) (place : Listed k x) where
+module _ (N Z : ℕ) (ts : List ℕ) (M : ℕ) (x : Target) (some : 0 < N) (aim : Aimed Z ts x) where
   -- a state of the list, if it has units
   abbrev After : State → Type 0
-  After t = unitsOf t ≢ 0 → Shaped N k (suc M) t
+  After t = unitsOf t ≢ 0 → Shaped N Z ts (suc M) t
 
-  missed-shaped : (s : State) (C u : ℕ) → s .misses ≤ M → C < 2 ^ k → size (with C x) ≤ N → u ≢ 0 → Shaped N k (suc M) (missed x s C u)
-  missed-shaped s C u m c l n =
-      (record { masked = with-lt k C x c place; few = suc-le-suc-iff .1 m; small = l }, pos-of-ne-zero n)
+  missed-shaped : (s : State) (C u : ℕ) → s .misses ≤ M → C < 2 ^ length ts → Room N Z ts (with C (x .place)) → u ≢ 0
+      → Shaped N Z ts (suc M) (missed x s C u)
+  missed-shaped s C u m c r n =
+      (record { masked = with-lt (length ts) C (x .place) c (aim .placed); few = suc-le-suc-iff .1 m; small = r }, pos-of-ne-zero n)
 
   -- where units go to contents that lose nothing, there is a way that holds none of them
-  room : (C q : ℕ) → (N - size C) * q ≢ 0 → size C < N
-  room C q n = go (decLt (size C) N)
+  left : (E q : ℕ) → (N - size E) * q ≢ 0 → size E < N
+  left E q n = go (decLt (size E) N)
     where
       full : (d : ℕ) → d ≡ 0 → d * q ≡ 0
       full d e = rw e (omega arith)
 
-      go : Dec (size C < N) → size C < N
+      go : Dec (size E < N) → size E < N
       go (yes l) = l
-      go (no l) = absurd (n (full (N - size C) (omega arith)))
+      go (no l) = absurd (n (full (N - size E) (omega arith)))
 
-  successors-shaped : (s : State) → Shaped N k M s → Every After (successors N x s)
+  successors-shaped : (s : State) → Shaped N Z ts M s → Every After (successors N x s)
   unfolding successors miss
-  successors-shaped s h = go (has (s .mask) x)
+  successors-shaped s h = go (has (s .mask) (x .place))
     where
       C : ℕ
       C = s .mask
+
+      E : ℕ
+      E = atRisk x C
 
       q : ℕ
       q = unitsOf s / N
 
-      lost : Every After (map (λ e. missed x s (without C e) q) (held C))
+      lost : Every After (map (λ e. missed x s (without C e) q) (held E))
       lost =
-          every-map (λ e. (e < places) × (bit C e ≡ true)) After (λ e. missed x s (without C e) q)
-          (λ e p. missed-shaped s (without C e) q (h .0 .few) (without-lt k C e (h .0 .masked) (p .1))
-          (le-trans (size-moved C e x (p .0) (p .1)) (h .0 .small)))
-          (held C) (every-held C)
+          every-map (λ e. (e < places) × (bit E e ≡ true)) After (λ e. missed x s (without C e) q)
+          (λ e p. missed-shaped s (without C e) q (h .0 .few) (without-lt (length ts) C e (h .0 .masked) (risk-sub x C e (p .1)))
+          (room-moved N Z ts x aim C e (h .0 .small) (p .0) (p .1)))
+          (held E) (every-held E)
 
-      kept : After (missed x s C ((N - size C) * q))
-      kept n = missed-shaped s C _ (h .0 .few) (h .0 .masked) (omega (arith, size-with C x, room C q n)) n
+      kept : After (missed x s C ((N - size E) * q))
+      kept n = missed-shaped s C _ (h .0 .few) (h .0 .masked) (room-joined N Z ts x aim C (h .0 .small) (left E q n)) n
 
       rest : After (missed x s 0 (unitsOf s % N))
-      rest n = missed-shaped s 0 _ (h .0 .few) (pow-pos k) (omega (arith, size-with 0 x, size-zero)) n
+      rest n = missed-shaped s 0 _ (h .0 .few) (pow-pos (length ts)) (room-alone N Z ts x aim some) n
 
-      go : (a : Bool) → Every After (cond a (s ∷ []) (map (λ e. missed x s (without C e) q) (held C) ++ missed x s C ((N - size C) * q) ∷ missed x s 0 (unitsOf s % N) ∷ []))
+      go : (a : Bool) → Every After (cond a (s ∷ []) (map (λ e. missed x s (without C e) q) (held E) ++ missed x s C ((N - size E) * q) ∷ missed x s 0 (unitsOf s % N) ∷ []))
       go true = (λ n. (record { masked = h .0 .masked; few = le-step (h .0 .few); small = h .0 .small }, h .1), tt)
-      go false = every-append After (map (λ e. missed x s (without C e) q) (held C)) _ lost (kept, (rest, tt))
+      go false = every-append After (map (λ e. missed x s (without C e) q) (held E)) _ lost (kept, (rest, tt))
 
-  pub access-shaped : (T : List State) → Every (Shaped N k M) T → Every (Shaped N k (suc M)) (access N x T)
+  pub access-shaped : (T : List State) → Every (Shaped N Z ts M) T → Every (Shaped N Z ts (suc M)) (access N x T)
   unfolding access
   access-shaped T h =
-      every-add (Shaped N k (suc M)) (shaped-plus N k (suc M)) (flatMap (successors N x) T) []
-      (every-flatMap (Shaped N k M) After (successors N x) successors-shaped T h) tt
+      every-add (Shaped N Z ts (suc M)) (shaped-plus N Z ts (suc M)) (flatMap (successors N x) T) []
+      (every-flatMap (Shaped N Z ts M) After (successors N x) successors-shaped T h) tt
 
 -- ---- how many are listed
 
-module _ (N : ℕ) (x : Place) where
-  length-successors : (s : State) → size (s .mask) ≤ N → length (present (successors N x s)) ≤ suc N
+module _ (N : ℕ) (x : Target) where
+  length-successors : (s : State) → size (atRisk x (s .mask)) ≤ N → length (present (successors N x s)) ≤ suc N
   unfolding successors miss size
-  length-successors s h = go (has (s .mask) x)
+  length-successors s h = go (has (s .mask) (x .place))
     where
       C : ℕ
       C = s .mask
+
+      E : ℕ
+      E = atRisk x C
 
       q : ℕ
       q = unitsOf s / N
 
       lost : List State
-      lost = map (λ e. missed x s (without C e) q) (held C)
+      lost = map (λ e. missed x s (without C e) q) (held E)
 
       kept : State
-      kept = missed x s C ((N - size C) * q)
+      kept = missed x s C ((N - size E) * q)
 
       rest : State
       rest = missed x s 0 (unitsOf s % N)
 
-      -- where all ways hold a block of C, no units go to contents that lose nothing
+      -- where all ways hold a block of E, no units go to contents that lose nothing
       gone : (d : ℕ) → d ≡ 0 → eqb (d * q) 0 ≡ true
       gone d e = rw e (eq-eqb (0 * q) 0 (omega arith))
 
-      last : Dec (size C < N) → length (held C) + length (present (kept ∷ rest ∷ [])) ≤ suc N
+      last : Dec (size E < N) → length (held E) + length (present (kept ∷ rest ∷ [])) ≤ suc N
       last (yes l) = omega (arith, length-present (kept ∷ rest ∷ []))
-      last (no l) = rw (gone (N - size C) (omega arith)) (omega (arith, length-present (rest ∷ [])))
+      last (no l) = rw (gone (N - size E) (omega arith)) (omega (arith, length-present (rest ∷ [])))
 
       go : (a : Bool) → length (present (cond a (s ∷ []) (lost ++ kept ∷ rest ∷ []))) ≤ suc N
       go true = omega (arith, length-present (s ∷ []))
@@ -252,12 +263,12 @@ module _ (N : ℕ) (x : Place) where
             arith,
             length-present-append lost (kept ∷ rest ∷ []),
             length-present lost,
-            length-map (held C) (λ e. missed x s (without C e) q),
-            last (decLt (size C) N),
+            length-map (held E) (λ e. missed x s (without C e) q),
+            last (decLt (size E) N),
           )
 
   -- at most N + 1 for each state, 17 with 16 ways
-  pub length-access : (T : List State) → Fits N T → length (present (flatMap (successors N x) T)) ≤ length T * suc N
+  pub length-access : (T : List State) → Fits N x T → length (present (flatMap (successors N x) T)) ≤ length T * suc N
   unfolding flatMap
   length-access [] h = omega arith
   length-access (s ∷ T) h =

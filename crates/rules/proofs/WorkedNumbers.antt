@@ -5,8 +5,8 @@ use mathlib.Core.List.{List, [], _∷_, map, flatMap}
 use Prim.Native.Nat.{ℕ, _^_, _*_}
 use Rattle.rules.specs.Units.{whole, more}
 use Rattle.rules.specs.Answers.{OutcomeSays, outcomeSays}
-use Rattle.rules.specs.Contents.{places, find, bit, with, without, shared, heldBelow, held, size}
-use Rattle.rules.specs.Input.{Input, inputOf, offset, runOf, predecessors}
+use Rattle.rules.specs.Contents.{places, find, bit, with, without, shared, heldBelow, held, size, maskOf, ofSet, targetOf, atRisk}
+use Rattle.rules.specs.Input.{Input, cache, inputOf, offset, runOf, predecessors}
 use Rattle.rules.specs.Ordered.{insert, insertAll, remove, best}
 use Rattle.rules.specs.Table.{State, state, order, add}
 use Rattle.rules.specs.Step.{miss, successors, leftOver, access, accessAside}
@@ -29,7 +29,7 @@ comes i T n aside = record { input = i; states = T; said = record { number = 0; 
 pub workedOut : Case → Case
 workedOut c = record { input = c .input; states = finished (c .input) .table; said = outcomeSays (outcome (c .input)) }
 
--- blocks a, b, c, tracked as bits 0, 1, 2 unless said; u is untracked
+-- blocks a, b, c, tracked as bits 0, 1, 2 unless said; u is untracked; one set unless said
 abbrev a : ℕ
 a = 10
 
@@ -48,30 +48,32 @@ abc = a ∷ b ∷ c ∷ []
 pub cases : List Case
 cases =
     -- 1: the empty run
-    comes (inputOf 2 64 abc (0 ∷ []) [] []) (state 0 0 whole ∷ []) 1 0
+    comes (inputOf (cache 1 2) 64 abc (0 ∷ []) [] []) (state 0 0 whole ∷ []) 1 0
     -- 2: a b c b a
-    ∷ comes (inputOf 2 64 abc (5 ∷ []) (a ∷ b ∷ c ∷ b ∷ a ∷ []) [])
+    ∷ comes (inputOf (cache 1 2) 64 abc (5 ∷ []) (a ∷ b ∷ c ∷ b ∷ a ∷ []) [])
     (state 1 5 17592186044416 ∷ state 3 4 105553116266496 ∷ state 3 5 52776558133248 ∷ state 5 4 70368744177664 ∷ state 5 5 35184372088832 ∷ [])
     5 0
     -- 3: one way
-    ∷ comes (inputOf 1 64 abc (4 ∷ []) (a ∷ a ∷ b ∷ a ∷ []) []) (state 1 3 whole ∷ []) 1 0
+    ∷ comes (inputOf (cache 1 1) 64 abc (4 ∷ []) (a ∷ a ∷ b ∷ a ∷ []) []) (state 1 3 whole ∷ []) 1 0
     -- 4: three ways
-    ∷ comes (inputOf 3 64 abc (2 ∷ []) (a ∷ b ∷ []) []) (state 2 2 93824992236886 ∷ state 3 2 187649984473770 ∷ []) 2 2
+    ∷ comes (inputOf (cache 1 3) 64 abc (2 ∷ []) (a ∷ b ∷ []) []) (state 2 2 93824992236886 ∷ state 3 2 187649984473770 ∷ []) 2 2
     -- 5: one state
-    ∷ comes (inputOf 2 1 abc (5 ∷ []) (a ∷ b ∷ c ∷ b ∷ a ∷ []) []) (state 1 5 whole ∷ []) 1 whole
+    ∷ comes (inputOf (cache 1 2) 1 abc (5 ∷ []) (a ∷ b ∷ c ∷ b ∷ a ∷ []) []) (state 1 5 whole ∷ []) 1 whole
     -- 6: two states
-    ∷ comes (inputOf 2 2 abc (3 ∷ []) (a ∷ b ∷ c ∷ []) []) (state 4 3 (2 ^ 47) ∷ state 6 3 (2 ^ 47) ∷ []) 2 70368744177664
+    ∷ comes (inputOf (cache 1 2) 2 abc (3 ∷ []) (a ∷ b ∷ c ∷ []) []) (state 4 3 (2 ^ 47) ∷ state 6 3 (2 ^ 47) ∷ []) 2 70368744177664
     -- 7: only a tracked
-    ∷ comes (inputOf 2 64 (a ∷ []) (3 ∷ []) (a ∷ u ∷ a ∷ []) []) (state 1 2 (2 ^ 47) ∷ state 1 3 (2 ^ 47) ∷ []) 2 0
+    ∷ comes (inputOf (cache 1 2) 64 (a ∷ []) (3 ∷ []) (a ∷ u ∷ a ∷ []) []) (state 1 2 (2 ^ 47) ∷ state 1 3 (2 ^ 47) ∷ []) 2 0
     -- 8: only a tracked, u twice
-    ∷ comes (inputOf 2 64 (a ∷ []) (4 ∷ []) (a ∷ u ∷ u ∷ a ∷ []) []) (state 1 3 (2 ^ 46) ∷ state 1 4 (3 * 2 ^ 46) ∷ []) 2 0
+    ∷ comes (inputOf (cache 1 2) 64 (a ∷ []) (4 ∷ []) (a ∷ u ∷ u ∷ a ∷ []) []) (state 1 3 (2 ^ 46) ∷ state 1 4 (3 * 2 ^ 46) ∷ []) 2 0
     -- 9: nodes a; b; empty; a
-    ∷ comes (inputOf 2 64 abc (1 ∷ 1 ∷ 0 ∷ 1 ∷ []) (a ∷ b ∷ a ∷ []) (0 ∷ 1 ∷ 0 ∷ 2 ∷ 1 ∷ 3 ∷ 2 ∷ 3 ∷ []))
+    ∷ comes (inputOf (cache 1 2) 64 abc (1 ∷ 1 ∷ 0 ∷ 1 ∷ []) (a ∷ b ∷ a ∷ []) (0 ∷ 1 ∷ 0 ∷ 2 ∷ 1 ∷ 3 ∷ 2 ∷ 3 ∷ []))
     (state 1 2 (2 ^ 47) ∷ state 1 3 (2 ^ 47) ∷ []) 2 0
     -- 10: nothing tracked
-    ∷ comes (inputOf 2 64 [] (2 ∷ []) (u ∷ u ∷ []) []) (state 0 2 whole ∷ []) 1 0
+    ∷ comes (inputOf (cache 1 2) 64 [] (2 ∷ []) (u ∷ u ∷ []) []) (state 0 2 whole ∷ []) 1 0
+    -- request 1/13: two sets, a and c in one, b in the other
+    ∷ comes (inputOf (cache 2 2) 64 abc (3 ∷ []) (a ∷ b ∷ c ∷ []) []) (state 6 3 (2 ^ 47) ∷ state 7 3 (2 ^ 47) ∷ []) 2 0
     ∷ []
 
 pub each-comes-out : map workedOut cases ≡ cases
-unfolding workedOut cases more places find bit with without shared heldBelow held size offset runOf predecessors insert insertAll remove best order add miss successors leftOver access accessAside choice foldAt fold folded advance run paired walk fromFront join joinAll enter node worked finished edgesKept reasons verdict outcome flatMap
+unfolding workedOut cases more places find bit with without shared heldBelow held size maskOf ofSet targetOf atRisk offset runOf predecessors insert insertAll remove best order add miss successors leftOver access accessAside choice foldAt fold folded advance run paired walk fromFront join joinAll enter node worked finished edgesKept reasons verdict outcome flatMap
 each-comes-out = refl

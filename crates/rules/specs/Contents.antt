@@ -1,13 +1,14 @@
 -- Contents: a set of tracked blocks as a mask, a number whose bit i says whether the block at place i of the list is in the set.
--- Document 01, section 2.
+-- Document 01, section 2; document 02, request 1/13.
 use mathlib.Core.Bool.{Bool, true, false, cond, _||_, _&&_, not}
 use mathlib.Core.List.{List, [], _∷_, _++_}
-use Prim.Native.Nat.{ℕ, zero, suc, _/_, _%_, _^_}
+use Prim.Native.Nat.{ℕ, zero, suc, _+_, _*_, _/_, _%_, _^_}
 use lib.Bits.{bitAnd, bitOr, bitXor}
 use lib.Dec.{eqb}
 use lib.ListN.{length}
 pub use Rattle.rules.specs.declared.Place.{Place}
 pub use Rattle.rules.specs.declared.Place.the-variants.{At as at, Untracked as untracked}
+pub use Rattle.rules.specs.declared.Target.{Target}
 
 -- at most 16 blocks are tracked
 unfoldable pub places : ℕ
@@ -71,3 +72,22 @@ held C = heldBelow places C
 -- how many they are: |C|
 unfoldable pub size : ℕ → ℕ
 size C = length (held C)
+
+-- ---- sets
+
+-- the mask of the listed blocks that pass a test: bit i for the block at place i
+unfoldable pub maskOf : (ℕ → Bool) → List ℕ → ℕ
+maskOf test [] = 0
+maskOf test (t ∷ ts) = maskOf test ts * 2 + cond (test t) 1 0
+
+-- the tracked blocks of set j of Z: a block belongs to the set given by its number modulo the set count
+unfoldable pub ofSet : ℕ → List ℕ → ℕ → ℕ
+ofSet Z ts j = maskOf (λ t. eqb (t % Z) j) ts
+
+-- what an access to b is after: its place, its set, and the tracked blocks of that set
+unfoldable pub targetOf : ℕ → List ℕ → ℕ → Target
+targetOf Z ts b = record { place = find ts b; set = b % Z; mates = ofSet Z ts (b % Z) }
+
+-- the blocks of C that a miss can evict: those of its own set
+unfoldable pub atRisk : Target → ℕ → ℕ
+atRisk x C = shared C (x .mates)

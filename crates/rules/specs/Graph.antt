@@ -30,7 +30,7 @@ enter K d (p ∷ ps) = joinAll K d ps (record { table = tableAt d p; aside = d .
 
 -- node j, after the nodes before it: its run, from where it starts
 unfoldable pub node : Input → ℕ → Worked → Work
-node i j d = run (i .ways) (i .limit) (i .tracked) (runOf i j) (enter (i .limit) d (predecessors (edgesOf (i .edges)) j))
+node i j d = run (i .ways) (i .sets) (i .limit) (i .tracked) (runOf i j) (enter (i .limit) d (predecessors (edgesOf (i .edges)) j))
 
 -- so many nodes from the first on, worked in order
 unfoldable pub worked : Input → ℕ → Worked

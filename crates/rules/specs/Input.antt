@@ -1,13 +1,15 @@
--- What comes in: document 01, section 2.
+-- What comes in: document 01, section 2; document 02, request 1/13.
 use mathlib.Core.Bool.{cond}
 use mathlib.Core.List.{List, [], _∷_}
 use Prim.Native.Nat.{ℕ}
 use lib.Dec.{eqb}
 use lib.ListN.{length, getD, take, drop}
 use Rattle.basics.specs.Sums.{sumOver}
+use Rattle.rules.specs.declared.Cache.{Cache}
 
 -- what a graph call is handed; of the two rooms, how many states they have room for
 pub record Input : Type 0 where
+  pub sets : ℕ
   pub ways : ℕ
   pub limit : ℕ
   pub tracked : List ℕ
@@ -17,11 +19,16 @@ pub record Input : Type 0 where
   pub resultRoom : ℕ
   pub workingRoom : ℕ
 
--- N ways, at most K states, the tracked blocks ts, the run lengths ns, the accesses bs, the edges es, rooms of r and w states
-abbrev pub inputIn : ℕ → ℕ → List ℕ → List ℕ → List ℕ → List ℕ → ℕ → ℕ → Input
-inputIn N K ts ns bs es r w =
+-- a cache of Z sets of N ways
+abbrev pub cache : ℕ → ℕ → Cache
+cache Z N = record { sets = Z; ways = N }
+
+-- the cache c, at most K states, the tracked blocks ts, the run lengths ns, the accesses bs, the edges es, rooms of r and w states
+abbrev pub inputIn : Cache → ℕ → List ℕ → List ℕ → List ℕ → List ℕ → ℕ → ℕ → Input
+inputIn c K ts ns bs es r w =
     record {
-      ways = N;
+      sets = c .sets;
+      ways = c .ways;
       limit = K;
       tracked = ts;
       lengths = ns;
@@ -32,8 +39,8 @@ inputIn N K ts ns bs es r w =
     }
 
 -- the same, with exactly the room that is needed
-abbrev pub inputOf : ℕ → ℕ → List ℕ → List ℕ → List ℕ → List ℕ → Input
-inputOf N K ts ns bs es = inputIn N K ts ns bs es K 5184
+abbrev pub inputOf : Cache → ℕ → List ℕ → List ℕ → List ℕ → List ℕ → Input
+inputOf c K ts ns bs es = inputIn c K ts ns bs es K 5184
 
 -- how many nodes there are: one for each run length
 abbrev pub nodes : Input → ℕ

@@ -5,7 +5,7 @@ use Prim.Native.Nat.{ℕ, zero, suc}
 use lib.Dec.{eqb, ltb}
 use lib.ListN.{length}
 use Rattle.basics.specs.Sums.{sumOver}
-use Rattle.rules.specs.declared.Refusal.the-variants.{Ways, Limit, Tracked, Accesses, Graph, Room}
+use Rattle.rules.specs.declared.Refusal.the-variants.{Ways, Sets, Limit, Tracked, Accesses, Graph, Room}
 use Rattle.rules.specs.declared.Verdict.{Verdict}
 use Rattle.rules.specs.declared.Verdict.the-variants.{Accepted, Refused}
 use Rattle.rules.specs.declared.Outcome.{Outcome}
@@ -55,12 +55,17 @@ hasEdgeOut n es = eachBelow n (λ j. eqb (suc j) n || among (map (λ e. e .from)
 unfoldable pub edgesKept : ℕ → List ℕ → Bool
 edgesKept n ns = let es = edgesOf ns in inPairs ns && forward n es && rises edgeOrder es && hasEdgeIn n es && hasEdgeOut n es
 
--- ---- the table of section 5
+-- ---- the table of section 5, with document 02's refusals in their places
 
--- 1 to 6, in order
+-- the set counts that there are
+abbrev pub setCounts : List ℕ
+setCounts = 1 ∷ 2 ∷ 4 ∷ 8 ∷ 16 ∷ []
+
+-- 1, 10 and 2 to 6, in order
 unfoldable pub reasons : Input → List Reason
 reasons i =
     when (outside 1 16 (i .ways)) Ways
+    ∷ when (not (among setCounts (i .sets))) Sets
     ∷ when (outside 1 64 (i .limit)) Limit
     ∷ when (ltb 16 (length (i .tracked)) || not (once (i .tracked))) Tracked
     ∷ when (ltb 4096 (length (i .accesses))) Accesses

@@ -5,7 +5,7 @@ use mathlib.Core.List.{List, [], _∷_}
 use Prim.Native.Nat.{ℕ, _^_, _≤_, _<_}
 use lib.ListN.{length}
 use Rattle.rules.specs.Units.{whole}
-use Rattle.rules.specs.Contents.{Place, at, size}
+use Rattle.rules.specs.Contents.{Place, Target, at, bit, shared, size, ofSet}
 use Rattle.rules.specs.Table.{State, unitsOf, rising, total}
 
 -- every element of a list has the property
@@ -17,19 +17,31 @@ Every P (x ∷ xs) = P x × Every P xs
 abbrev pub Listed : ℕ → Place → Type 0
 Listed k x = (i : ℕ) → x ≡ at i → i < k
 
--- a mask of k bits, at most M misses, no more blocks than ways
-pub record Loose (N k M : ℕ) (s : State) : Type 0 where
-  pub masked : s .mask < 2 ^ k
-  pub few : s .misses ≤ M
-  pub small : size (s .mask) ≤ N
+-- x has one of the places of ts or none, a place of its own set, and that set's blocks beside it
+pub record Aimed (Z : ℕ) (ts : List ℕ) (x : Target) : Type 0 where
+  pub placed : Listed (length ts) (x .place)
+  pub own : (i : ℕ) → x .place ≡ at i → bit (x .mates) i ≡ true
+  pub beside : x .mates ≡ ofSet Z ts (x .set)
 
--- and at least 1 unit
-abbrev pub Shaped : ℕ → ℕ → ℕ → State → Type 0
-Shaped N k M s = Loose N k M s × (1 ≤ unitsOf s)
+-- C has no more blocks of any set than the set has ways
+abbrev pub Room : ℕ → ℕ → List ℕ → ℕ → Type 0
+Room N Z ts C = (j : ℕ) → size (shared C (ofSet Z ts j)) ≤ N
 
--- N ways, k tracked blocks, at most K states, after at most M accesses
-pub record Table (N k K M : ℕ) (T : List State) : Type 0 where
-  pub rises : rising T ≡ true
-  pub short : length T ≤ K
-  pub shaped : Every (Shaped N k M) T
-  pub full : total T ≡ whole
+-- Z sets of N ways, the tracked blocks ts
+module _ (N Z : ℕ) (ts : List ℕ) where
+  -- a mask of a bit for each, at most M misses, no more blocks of a set than ways
+  pub record Loose (M : ℕ) (s : State) : Type 0 where
+    pub masked : s .mask < 2 ^ length ts
+    pub few : s .misses ≤ M
+    pub small : Room N Z ts (s .mask)
+
+  -- and at least 1 unit
+  abbrev pub Shaped : ℕ → State → Type 0
+  Shaped M s = Loose M s × (1 ≤ unitsOf s)
+
+  -- at most K states, after at most M accesses
+  pub record Table (K M : ℕ) (T : List State) : Type 0 where
+    pub rises : rising T ≡ true
+    pub short : length T ≤ K
+    pub shaped : Every (Shaped M) T
+    pub full : total T ≡ whole

@@ -65,6 +65,20 @@ pub enum Place {
     Untracked,
 }
 
+// The cache: how many sets it has, and how many ways a set has.
+pub struct Cache {
+    pub sets: u32,
+    pub ways: u32,
+}
+
+// What an access is after: where its block stands in the list of tracked blocks, the set that it belongs to, and the tracked blocks of
+// that set, as a mask.
+pub struct Target {
+    pub place: Place,
+    pub set: u32,
+    pub mates: u64,
+}
+
 // Whether one with the numbers `a` and `b` stands before one with `c` and `d`: by the first, and where that is the same by the second.
 pub fn precedes(a: u64, b: u64, c: u64, d: u64) -> bool
     ensures { λ r. ⌜ r ≡ isBefore (thenBy (byNumber a c) (byNumber b d)) ⌝ }
@@ -95,6 +109,7 @@ pub enum Refusal {
     Room,
     Row,
     SpreadRoom,
+    Sets,
     NoCore,
 }
 
@@ -113,6 +128,7 @@ impl Refusal {
             Refusal::Room => 6,
             Refusal::Row => 7,
             Refusal::SpreadRoom => 8,
+            Refusal::Sets => 10,
             Refusal::NoCore => 16,
         }
     }

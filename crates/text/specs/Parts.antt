@@ -4,7 +4,7 @@ use mathlib.Core.List.{List, [], _∷_}
 use Prim.Native.Nat.{ℕ, _*_}
 use lib.Dec.{eqb, leb}
 use lib.ListN.{length, getD, take, drop}
-use Rattle.rules.specs.Input.{Input, inputOf}
+use Rattle.rules.specs.Input.{Input, cache, inputOf}
 
 -- some numbers from the front of a list: whether there were enough, they, and what is left
 pub record Part : Type 0 where
@@ -39,7 +39,7 @@ complete ns =
     leb 2 (length ns) && trackedPart ns .enough && runsPart ns .enough && accessesPart ns .enough && edgesPart ns .enough
     && eqb (length (edgesPart ns .rest)) 0
 
--- what a graph call is handed
+-- what a graph call is handed; the cache has one set
 unfoldable pub inputFrom : List ℕ → Input
 inputFrom ns =
-    inputOf (getD ns 0 0) (getD ns 1 0) (trackedPart ns .numbers) (runsPart ns .numbers) (accessesPart ns .numbers) (edgesPart ns .numbers)
+    inputOf (cache 1 (getD ns 0 0)) (getD ns 1 0) (trackedPart ns .numbers) (runsPart ns .numbers) (accessesPart ns .numbers) (edgesPart ns .numbers)

@@ -10,6 +10,7 @@ use longest::longest_path;
 use questions::spread_in;
 use reading::Read;
 use reading::read_numbers;
+use rules::Cache;
 use rules::Count;
 use rules::Length;
 use rules::Outcome;
@@ -42,7 +43,7 @@ pub(crate) enum Wanted {
     Cycles,
 }
 
-// The graph call, for numbers that are complete: the tracked blocks end at `first`, the run lengths at `second`, the accesses at `third`.
+// The graph call of a cache with one set, for numbers that are complete: the tracked blocks end at `first`, the run lengths at `second`, the accesses at `third`.
 pub(crate) fn call(
     numbers: &[u32],
     first: usize,
@@ -55,7 +56,10 @@ pub(crate) fn call(
     ensures { λ r. ⌜ Called (inputFrom (now (numbers .entry))) r (now (result .entry)) (now (work .entry)) (now (result .exit)) (now (work .exit)) ⌝ }
 {
     analyse(
-        numbers[0],
+        Cache {
+            sets: 1,
+            ways: numbers[0],
+        },
         numbers[1],
         &numbers[3..first],
         &numbers[first + 1..second],
@@ -72,7 +76,10 @@ pub(crate) fn longest_of(numbers: &[u32], first: usize, second: usize, third: us
     ensures { λ r. ⌜ r ≡ longest (inputFrom (now (numbers .entry))) ⌝ }
 {
     match longest_path(
-        numbers[0],
+        Cache {
+            sets: 1,
+            ways: numbers[0],
+        },
         numbers[1],
         &numbers[3..first],
         &numbers[first + 1..second],

@@ -4,6 +4,7 @@ use crate::numbers::QUARTER;
 use crate::numbers::WHOLE;
 use crate::report::Report;
 use crate::trial::case;
+use crate::trial::one_set;
 
 // A straight run with a, b and c tracked.
 fn straight(
@@ -18,7 +19,7 @@ fn straight(
 ) -> Report {
     case(
         name,
-        ways,
+        one_set(ways),
         limit,
         &[10, 11, 12],
         runs,
@@ -39,7 +40,18 @@ fn two_ways(
     states: &[u64],
     report: Report,
 ) -> Report {
-    case(name, 2, 64, tracked, runs, accesses, &[], states, 0, report)
+    case(
+        name,
+        one_set(2),
+        64,
+        tracked,
+        runs,
+        accesses,
+        &[],
+        states,
+        0,
+        report,
+    )
 }
 
 fn case_1(report: Report) -> Report {
@@ -144,7 +156,7 @@ fn case_9(report: Report) -> Report {
     let states: [u64; 6] = [1, 2, HALF, 1, 3, HALF];
     case(
         b"case 9:",
-        2,
+        one_set(2),
         64,
         &[10, 11, 12],
         &runs,

@@ -3,17 +3,19 @@ use crate::numbers::say;
 use crate::report::Report;
 use crate::said::Said;
 use crate::said::length_said;
+use crate::trial::one_set;
 use longest::longest_path;
+use rules::Cache;
 
 pub(crate) fn longest_said(
-    ways: u32,
+    cache: Cache,
     limit: u32,
     tracked: &[u32],
     runs: &[u32],
     accesses: &[u32],
     edges: &[u32],
 ) -> Said {
-    length_said(longest_path(ways, limit, tracked, runs, accesses, edges))
+    length_said(longest_path(cache, limit, tracked, runs, accesses, edges))
 }
 
 // What the longest path has to answer where the graph call answers `refusal`. It is lent no room, so 6 does not apply. In every input of
@@ -44,7 +46,7 @@ pub(crate) fn compare_longest(
 
 // The longest path of an input of the graph call, which answers `refusal`.
 pub(crate) fn ask_longest(
-    ways: u32,
+    cache: Cache,
     limit: u32,
     tracked: &[u32],
     runs: &[u32],
@@ -53,7 +55,7 @@ pub(crate) fn ask_longest(
     refusal: u64,
     report: Report,
 ) -> Report {
-    let said = longest_said(ways, limit, tracked, runs, accesses, edges);
+    let said = longest_said(cache, limit, tracked, runs, accesses, edges);
     compare_longest(said, refusal, accesses, report)
 }
 
@@ -76,7 +78,7 @@ fn graph(
     if 40 < accesses {
         return report.compared(false);
     }
-    let said = longest_said(2, 64, &[10], runs, &tens[0..accesses], edges);
+    let said = longest_said(one_set(2), 64, &[10], runs, &tens[0..accesses], edges);
     say_longest(name, said.value);
     report
         .compared(said.refusal == 0)

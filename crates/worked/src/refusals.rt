@@ -1,4 +1,4 @@
-// Both sides of each refusal of section 5.
+// Both sides of each refusal of section 5, and of 10 (document 02, request 1/13).
 use crate::numbers::TOP;
 use crate::numbers::WHOLE;
 use crate::report::Report;
@@ -6,12 +6,14 @@ use crate::together::all_together;
 use crate::trial::Rooms;
 use crate::trial::answer;
 use crate::trial::enough;
+use crate::trial::one_set;
+use rules::Cache;
 
 // One access to one tracked block: one miss, and then it is held.
 fn one_access(name: &[u8], ways: u32, limit: u32, refusal: u64, report: Report) -> Report {
     answer(
         name,
-        ways,
+        one_set(ways),
         limit,
         &[10],
         &[1],
@@ -32,6 +34,40 @@ fn ways(report: Report) -> Report {
     one_access(b"N 4294967295", TOP, 64, 1, more)
 }
 
+// The same on a cache of so many sets, with two ways in each.
+fn on_sets(name: &[u8], sets: u32, refusal: u64, report: Report) -> Report {
+    answer(
+        name,
+        Cache { sets, ways: 2 },
+        64,
+        &[10],
+        &[1],
+        &[10],
+        &[],
+        enough(),
+        refusal,
+        &[1, 1, WHOLE],
+        report,
+    )
+}
+
+fn set_counts(report: Report) -> Report {
+    let one = on_sets(b"1 set", 1, 0, report);
+    let two = on_sets(b"2 sets", 2, 0, one);
+    let four = on_sets(b"4 sets", 4, 0, two);
+    let eight = on_sets(b"8 sets", 8, 0, four);
+    on_sets(b"16 sets", 16, 0, eight)
+}
+
+fn other_counts(report: Report) -> Report {
+    let none = on_sets(b"0 sets", 0, 10, report);
+    let three = on_sets(b"3 sets", 3, 10, none);
+    let fifteen = on_sets(b"15 sets", 15, 10, three);
+    let seventeen = on_sets(b"17 sets", 17, 10, fifteen);
+    let double = on_sets(b"32 sets", 32, 10, seventeen);
+    on_sets(b"4294967295 sets", TOP, 10, double)
+}
+
 fn limits(report: Report) -> Report {
     let none = one_access(b"K 0", 2, 0, 2, report);
     let one = one_access(b"K 1", 2, 1, 0, none);
@@ -44,7 +80,7 @@ fn limits(report: Report) -> Report {
 fn tracking(name: &[u8], tracked: &[u32], refusal: u64, report: Report) -> Report {
     answer(
         name,
-        2,
+        one_set(2),
         64,
         tracked,
         &[0],
@@ -74,7 +110,7 @@ fn tracked_twice(report: Report) -> Report {
 fn same_block(name: &[u8], runs: &[u32], accesses: &[u32], refusal: u64, report: Report) -> Report {
     answer(
         name,
-        2,
+        one_set(2),
         64,
         &[10],
         runs,
@@ -141,7 +177,7 @@ fn row(
     chain(edges);
     answer(
         name,
-        2,
+        one_set(2),
         64,
         &[10],
         runs,
@@ -183,7 +219,7 @@ fn wrapped_length(report: Report) -> Report {
 fn graph(name: &[u8], runs: &[u32], edges: &[u32], refusal: u64, report: Report) -> Report {
     answer(
         name,
-        2,
+        one_set(2),
         64,
         &[10],
         runs,
@@ -244,7 +280,7 @@ fn room(
     let rooms = Rooms { result, work };
     answer(
         name,
-        2,
+        one_set(2),
         limit,
         &[10],
         &[1],
@@ -280,7 +316,8 @@ fn working_rooms(report: Report) -> Report {
 }
 
 pub(crate) fn all_refusals(report: Report) -> Report {
-    let blocks = tracked_twice(tracked(limits(ways(report))));
+    let caches = other_counts(set_counts(ways(report)));
+    let blocks = tracked_twice(tracked(limits(caches)));
     let runs = nodes(wrapped_length(lengths(accesses(blocks))));
     let edges = edges_missing(edge_order(edges_past(edge_ends(runs))));
     all_together(working_rooms(result_rooms(edges)))

@@ -10,7 +10,13 @@ use crate::rooms::has_only;
 use crate::rooms::is_marked;
 use crate::rooms::mark;
 use estimate::analyse;
+use rules::Cache;
 use rules::Outcome;
+
+// A cache of one set, as document 01 has it.
+pub(crate) fn one_set(ways: u32) -> Cache {
+    Cache { sets: 1, ways }
+}
 
 // The answer in numbers: a refusal's number, or 0 with the number of states and the set-aside count.
 struct Got {
@@ -81,7 +87,7 @@ fn compare_case(
 // A worked case in these rooms.
 fn case_in(
     name: &[u8],
-    ways: u32,
+    cache: Cache,
     limit: u32,
     tracked: &[u32],
     runs: &[u32],
@@ -93,18 +99,18 @@ fn case_in(
     aside: u64,
     report: Report,
 ) -> Report {
-    let longest = longest_said(ways, limit, tracked, runs, accesses, edges);
+    let longest = longest_said(cache, limit, tracked, runs, accesses, edges);
     let paths = compare_longest(longest, 0, accesses, report);
     mark(result);
     mark(work);
-    let got = got_of(analyse(ways, limit, tracked, runs, accesses, edges, result, work));
+    let got = got_of(analyse(cache, limit, tracked, runs, accesses, edges, result, work));
     compare_case(name, got, result, work, longest.value, states, aside, paths)
 }
 
 // A worked case in rooms that are longer than they have to be.
 pub(crate) fn case(
     name: &[u8],
-    ways: u32,
+    cache: Cache,
     limit: u32,
     tracked: &[u32],
     runs: &[u32],
@@ -118,7 +124,7 @@ pub(crate) fn case(
     let mut work: [u64; 15560] = [0; 15560];
     case_in(
         name,
-        ways,
+        cache,
         limit,
         tracked,
         runs,
@@ -161,7 +167,7 @@ pub(crate) fn say_answer(part: &[u8], name: &[u8], refusal: u64) {
 // set aside.
 fn answer_in(
     name: &[u8],
-    ways: u32,
+    cache: Cache,
     limit: u32,
     tracked: &[u32],
     runs: &[u32],
@@ -173,10 +179,19 @@ fn answer_in(
     states: &[u64],
     report: Report,
 ) -> Report {
-    let paths = ask_longest(ways, limit, tracked, runs, accesses, edges, refusal, report);
+    let paths = ask_longest(
+        cache,
+        limit,
+        tracked,
+        runs,
+        accesses,
+        edges,
+        refusal,
+        report,
+    );
     mark(result);
     mark(work);
-    let got = got_of(analyse(ways, limit, tracked, runs, accesses, edges, result, work));
+    let got = got_of(analyse(cache, limit, tracked, runs, accesses, edges, result, work));
     say_answer(b"refusals: ", name, got.refusal);
     if refusal == 0 {
         return compare_table(got, result, work, states, 0, paths);
@@ -187,7 +202,7 @@ fn answer_in(
 // The same in the first words of two rooms.
 fn answer_within(
     name: &[u8],
-    ways: u32,
+    cache: Cache,
     limit: u32,
     tracked: &[u32],
     runs: &[u32],
@@ -210,7 +225,7 @@ fn answer_within(
     }
     answer_in(
         name,
-        ways,
+        cache,
         limit,
         tracked,
         runs,
@@ -227,7 +242,7 @@ fn answer_within(
 // The same in rooms of these sizes.
 pub(crate) fn answer(
     name: &[u8],
-    ways: u32,
+    cache: Cache,
     limit: u32,
     tracked: &[u32],
     runs: &[u32],
@@ -242,7 +257,7 @@ pub(crate) fn answer(
     let mut work: [u64; 15560] = [0; 15560];
     answer_within(
         name,
-        ways,
+        cache,
         limit,
         tracked,
         runs,

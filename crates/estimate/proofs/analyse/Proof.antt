@@ -13,7 +13,7 @@ use Rattle.estimate.proofs.analyse.Tie as tie
 work-nodes-requires : tie.Need-work-nodes-requires
 work-nodes-requires c κs = let a = c .before .before .before .before .before .before .before .before .before .before .args in
     let ok = checked _ (sym (c .before .enum-told .given .1) ∙ c .before .before .before .judge .ensures) in
-    (omega (arith, ok .working-room), checked-without (a .ways) (a .limit) (now (a .tracked)) (now (a .runs)) (now (a .accesses)) (now (a .edges)) (now (a .result)) (now (a .work)) ok)
+    (omega (arith, ok .working-room), checked-without (a .cache) (a .limit) (now (a .tracked)) (now (a .runs)) (now (a .accesses)) (now (a .edges)) (now (a .result)) (now (a .work)) ok)
 
 sub-hand-over : tie.Need-sub-hand-over
 sub-hand-over c = omega (arith, checked _ (sym (c .before .before .before .before .before .before .enum-told .given .1) ∙ c .before .before .before .before .before .before .before .before .judge .ensures) .some-nodes)
@@ -22,15 +22,15 @@ hand-over-requires : tie.Need-hand-over-requires
 hand-over-requires c κs = let a = c .before .before .before .before .before .before .before .before .before .before .before .before .before .before .before .args in
     let ok = checked _ (sym (c .before .before .before .before .before .before .enum-told .given .1) ∙ c .before .before .before .before .before .before .before .before .judge .ensures) in
     let g = c .before .before .before .before .work-nodes in
-    let table = last-table (a .ways) (a .limit) (now (a .tracked)) (now (a .runs)) (now (a .accesses)) (now (a .edges)) (now (a .result)) (now (a .work)) (g .result .0) (tableOf (g .last .0)) (ok .some-nodes) (g .ensures) in (
+    let table = last-table (a .cache) (a .limit) (now (a .tracked)) (now (a .runs)) (now (a .accesses)) (now (a .edges)) (now (a .result)) (now (a .work)) (g .result .0) (tableOf (g .last .0)) (ok .some-nodes) (g .ensures) in (
       omega (arith, ok .few-nodes),
       omega (arith, ok .working-room, g .kept .0),
-      rw table (omega (arith, finished-fits (handed (a .ways) (a .limit) (now (a .tracked)) (now (a .runs)) (now (a .accesses)) (now (a .edges)) (now (a .result)) (now (a .work))) ok, ok .result-room)),
+      rw table (omega (arith, finished-fits (handed (a .cache) (a .limit) (now (a .tracked)) (now (a .runs)) (now (a .accesses)) (now (a .edges)) (now (a .result)) (now (a .work))) ok, ok .result-room)),
     )
 
 returns : tie.Need-returns
 returns c = let a = c .before .before .before .before .before .before .before .before .before .before .args in
-    leaves-refused (a .ways) (a .limit) (now (a .tracked)) (now (a .runs)) (now (a .accesses)) (now (a .edges)) (now (a .result)) (now (a .work)) _ _ (c .before .before .before .judge .ensures) (c .before .reason .given .1)
+    leaves-refused (a .cache) (a .limit) (now (a .tracked)) (now (a .runs)) (now (a .accesses)) (now (a .edges)) (now (a .result)) (now (a .work)) _ _ (c .before .before .before .judge .ensures) (c .before .reason .given .1)
 
 returns-2 : tie.Need-returns-2
 returns-2 c = let a = c .before .before .before .before .before .before .before .before .before .before .before .before .before .before .before .before .before .before .before .before .args in
@@ -38,9 +38,9 @@ returns-2 c = let a = c .before .before .before .before .before .before .before 
     let ok = checked _ accepted in
     let g = c .before .before .before .before .before .before .before .before .before .work-nodes in
     let h = c .before .before .before .before .hand-over .ensures in
-    leaves-finished (a .ways) (a .limit) (now (a .tracked)) (now (a .runs)) (now (a .accesses)) (now (a .edges)) (now (a .result)) (now (a .work)) _ _ _ _ _ accepted
-    (last-table (a .ways) (a .limit) (now (a .tracked)) (now (a .runs)) (now (a .accesses)) (now (a .edges)) (now (a .result)) (now (a .work)) (g .result .0) (tableOf (g .last .0)) (ok .some-nodes) (g .ensures))
-    (last-aside (a .ways) (a .limit) (now (a .tracked)) (now (a .runs)) (now (a .accesses)) (now (a .edges)) (now (a .result)) (now (a .work)) (g .result .0) (tableOf (g .last .0)) (ok .some-nodes) (g .ensures))
+    leaves-finished (a .cache) (a .limit) (now (a .tracked)) (now (a .runs)) (now (a .accesses)) (now (a .edges)) (now (a .result)) (now (a .work)) _ _ _ _ _ accepted
+    (last-table (a .cache) (a .limit) (now (a .tracked)) (now (a .runs)) (now (a .accesses)) (now (a .edges)) (now (a .result)) (now (a .work)) (g .result .0) (tableOf (g .last .0)) (ok .some-nodes) (g .ensures))
+    (last-aside (a .cache) (a .limit) (now (a .tracked)) (now (a .runs)) (now (a .accesses)) (now (a .edges)) (now (a .result)) (now (a .work)) (g .result .0) (tableOf (g .last .0)) (ok .some-nodes) (g .ensures))
     (h .0) (h .1 .0) (rw (g .kept .0) at (h .1 .1))
 
 pub analyse-spec : {M : Type 1} → statement M

@@ -15,7 +15,7 @@ use Rattle.longest.proofs.longest_path.Tie as tie
 abbrev given : tie.Start → Input
 given s =
     let a = s .args in
-    inputOf (a .ways) (a .limit) (now (a .tracked)) (now (a .runs)) (now (a .accesses)) (now (a .edges))
+    inputOf (a .cache) (a .limit) (now (a .tracked)) (now (a .runs)) (now (a .accesses)) (now (a .edges))
 
 -- it is accepted
 passes : (c : tie.After-ends) → Accepted ≡ verdict (given (c .before .before .before .before .before .before .before .before))

@@ -5,10 +5,10 @@ use Rattle.enumerate.proofs.sweep.sweep.Statement.{statement}
 use Rattle.enumerate.proofs.sweep.sweep.Tie as tie
 
 abbrev Inv-loop : tie.InvT-loop
-Inv-loop ways tracked blocks runs edges length stride lists done₀ number₀ done number = number ≤ lists
+Inv-loop cache tracked blocks runs edges length stride lists done₀ number₀ done number = number ≤ lists
 
 abbrev μ-loop : tie.MeasureT-loop
-μ-loop ways tracked blocks runs edges length stride lists done₀ number₀ done number = lists - number
+μ-loop cache tracked blocks runs edges length stride lists done₀ number₀ done number = lists - number
 
 pub sweep-spec : {M : Type 1} → statement M
 sweep-spec = tie.close (tie.spec Inv-loop μ-loop (λ c κs. search needs) (λ c. search needs) (λ c κs. search needs) (λ c. search needs) (λ c. search needs) (λ c. search needs) (λ c. search needs))

@@ -37,7 +37,7 @@ follow-to-scratch-requires c κs = let b = c .before .before .before .before in
     let few : l .n ≤ l .i * 17 = gathered-room (a .ways) (a .x) S _ _ (l .inv .2 .count) (p .6) (p .1) in
     let read = slot-reads _ _ _ _ (l .inv .2) (a .from) (a .m) (l .i) _ (omega arith) (p .3) (c .before .load .ensures) in (
       p .0,
-      rw read (workable-at (a .ways) S (p .6) (l .i)),
+      rw read (workable-at (a .ways) (a .x) S (p .6) (l .i)),
       p .1,
       omega arith,
       scratch-rising _ _ _ _ (l .inv .2) (gathered-rising (a .ways) (a .x) S (l .i)),

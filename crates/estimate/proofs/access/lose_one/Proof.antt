@@ -1,4 +1,4 @@
--- `lose_one` adds the state without the block, or nothing where the block is not held.
+-- `lose_one` adds the state without the block, or nothing where the block is none of those that can be evicted.
 use mathlib.Core.Path.{sym, _∙_}
 use native.Mathlib.Omega.{arith}
 use denote.Ref.{now}
@@ -12,11 +12,11 @@ use Rattle.estimate.proofs.access.lose_one.Tie as tie
 returns : tie.Need-returns
 returns c = let m = c .before .before .before in
     let h = m .before .before .before in
-    lost-here _ _ _ _ (sym (h .before .has-place .ensures) ∙ h .if1 .taken) _ _ _ _ _ _ (m .before .without-place .ensures) (m .missed .ensures) (c .before .before .add .ensures)
+    lost-here _ _ _ _ _ (sym (h .before .has-place .ensures) ∙ h .if1 .taken) _ _ _ _ _ _ (m .before .without-place .ensures) (m .missed .ensures) (c .before .before .add .ensures)
 
 returns-2 : tie.Need-returns-2
 returns-2 c = let a = c .before .before .before .args in
-    lost-none _ _ _ _ (sym (c .before .has-place .ensures) ∙ c .if1 .left) (a .n) (tableOf (now (a .words))) (fits-table (now (a .words)) (a .n) (omega arith))
+    lost-none _ _ _ _ _ (sym (c .before .has-place .ensures) ∙ c .if1 .left) (a .n) (tableOf (now (a .words))) (fits-table (now (a .words)) (a .n) (omega arith))
 
 pub lose-one-spec : {M : Type 1} → statement M
 lose-one-spec =

@@ -17,41 +17,41 @@ use Rattle.estimate.proofs.graph.work_nodes.Statement.{statement}
 use Rattle.estimate.proofs.graph.work_nodes.Tie as tie
 
 abbrev Inv-loop : tie.InvT-loop
-Inv-loop work₀ runs accesses edges tracked ways limit aside₀ from₀ j₀ work aside from j =
+Inv-loop work₀ runs accesses edges tracked cache limit aside₀ from₀ j₀ work aside from j =
     (j ≤ length runs) × (length work ≡ length work₀) × (from ≡ offset runs j)
-    × (workedIn j (aside .0) (tableOf work) ≡ worked (inputOf ways limit tracked runs accesses edges) j)
+    × (workedIn j (aside .0) (tableOf work) ≡ worked (inputOf cache limit tracked runs accesses edges) j)
 
 abbrev μ-loop : tie.MeasureT-loop
-μ-loop work₀ runs accesses edges tracked ways limit aside₀ from₀ j₀ work aside from j = length runs - j
+μ-loop work₀ runs accesses edges tracked cache limit aside₀ from₀ j₀ work aside from j = length runs - j
 
 loop-holds : tie.Need-loop-holds Inv-loop μ-loop
 loop-holds c = let a = c .before .before .before .before .before .args in
-    (search needs, refl, offset-start (now (a .runs)), nodes-start (inputOf (a .ways) (a .limit) (now (a .tracked)) (now (a .runs)) (now (a .accesses)) (now (a .edges))) (tableOf (now (a .work))))
+    (search needs, refl, offset-start (now (a .runs)), nodes-start (inputOf (a .cache) (a .limit) (now (a .tracked)) (now (a .runs)) (now (a .accesses)) (now (a .edges))) (tableOf (now (a .work))))
 
 cast-to : tie.Need-cast-to Inv-loop μ-loop
 cast-to c = omega (arith, c .shared-slice-known5 .given (c .before .before .loop .j))
 
 add-to : tie.Need-add-to Inv-loop μ-loop
 add-to c = let a = c .before .before .before .before .before .before .before .before .args in
-    let i = inputOf (a .ways) (a .limit) (now (a .tracked)) (now (a .runs)) (now (a .accesses)) (now (a .edges)) in
+    let i = inputOf (a .cache) (a .limit) (now (a .tracked)) (now (a .runs)) (now (a .accesses)) (now (a .edges)) in
     let ok = c .before .before .before .before .before .before .before .before .pre .1 in
     omega (arith, run-within i ok (c .before .before .loop .j) (c .before .loop-test .taken), c .before .before .loop .inv .2, ok .few-accesses)
 
 mul-work-node : tie.Need-mul-work-node Inv-loop μ-loop
 mul-work-node c = let a = c .before .before .before .before .before .before .before .before .before .args in
-    let i = inputOf (a .ways) (a .limit) (now (a .tracked)) (now (a .runs)) (now (a .accesses)) (now (a .edges)) in
+    let i = inputOf (a .cache) (a .limit) (now (a .tracked)) (now (a .runs)) (now (a .accesses)) (now (a .edges)) in
     let ok = c .before .before .before .before .before .before .before .before .before .pre .1 in
     omega (arith, run-within i ok (c .before .before .before .loop .j) (c .before .before .loop-test .taken), c .before .before .before .loop .inv .2, ok .few-accesses)
 
 part-work-node-end : tie.Need-part-work-node-end Inv-loop μ-loop
 part-work-node-end c = let a = c .before .before .before .before .before .before .before .before .before .args in
-    let i = inputOf (a .ways) (a .limit) (now (a .tracked)) (now (a .runs)) (now (a .accesses)) (now (a .edges)) in
+    let i = inputOf (a .cache) (a .limit) (now (a .tracked)) (now (a .runs)) (now (a .accesses)) (now (a .edges)) in
     omega (arith, run-within i (c .before .before .before .before .before .before .before .before .before .pre .1) (c .before .before .before .loop .j) (c .before .before .loop-test .taken), c .before .before .before .loop .inv .2)
 
 work-node-requires : tie.Need-work-node-requires Inv-loop μ-loop
 work-node-requires c κs = let a = c .before .before .before .before .before .before .before .before .before .before .args in
     let l = c .before .before .before .before .loop in
-    let i = inputOf (a .ways) (a .limit) (now (a .tracked)) (now (a .runs)) (now (a .accesses)) (now (a .edges)) in
+    let i = inputOf (a .cache) (a .limit) (now (a .tracked)) (now (a .runs)) (now (a .accesses)) (now (a .edges)) in
     let ok = c .before .before .before .before .before .before .before .before .before .before .pre .1 in
     let here = c .before .before .before .loop-test .taken in
     let part = run-part i ok (l .j) here (l .from) (l .inv .2) in (
@@ -62,7 +62,7 @@ work-node-requires c κs = let a = c .before .before .before .before .before .be
 loop-again : tie.Need-loop-again Inv-loop μ-loop
 loop-again c = let a = c .before .before .before .before .before .before .before .before .before .before .before .before .before .args in
     let l = c .before .before .before .before .before .before .before .loop in
-    let i = inputOf (a .ways) (a .limit) (now (a .tracked)) (now (a .runs)) (now (a .accesses)) (now (a .edges)) in
+    let i = inputOf (a .cache) (a .limit) (now (a .tracked)) (now (a .runs)) (now (a .accesses)) (now (a .edges)) in
     let ok = c .before .before .before .before .before .before .before .before .before .before .before .before .before .pre .1 in
     let here = c .before .before .before .before .before .before .loop-test .taken in
     let g = c .before .before .work-node in (

@@ -1,35 +1,54 @@
--- `advance` gathers what follows in the scratch, and settles it.
+-- `advance` aims at the block, gathers what follows in the scratch, and settles it.
 use native.Mathlib.Omega.{arith}
 use denote.Ref.{now}
-use lib.ListN.{length}
+use Rattle.rules.specs.Shape.{Aimed}
 use Rattle.estimate.specs.Working.{workAt}
-use Rattle.estimate.proofs.Settling.{workable, listed-sixteen, gathered-fits, advanced}
+use Rattle.estimate.proofs.Settling.{workable, listed-sixteen, aimed-so, gathered-fits, advanced}
 use borrow.Author.Needs.{needs}
 use Rattle.estimate.proofs.run.advance.Statement.{statement}
 use Rattle.estimate.proofs.run.advance.Tie as tie
 
+aim-requires : tie.Need-aim-requires
+aim-requires c κs = let p = c .before .before .pre in (p .ranges .few-tracked, p .ranges .known-sets)
+
+-- the access is after a block of the cache
+aims : (c : tie.After-aim) → Aimed (c .before .before .before .args .cache .sets) (now (c .before .before .before .args .tracked)) (c .aim .result)
+aims c = aimed-so _ _ (c .before .before .before .args .block) _ (c .aim .ensures)
+
 gather-requires : tie.Need-gather-requires
-gather-requires c κs = let a = c .before .before .before .before .args in
-    let p = c .before .before .before .before .pre in
-    (listed-sixteen (now (a .tracked)) (a .block) _ (p .ranges .few-tracked) (c .before .look-up .ensures), p .ranges .few-ways, p .count, omega (arith, p .slot, p .count), p .room, p .aside, workable (a .ways) (length (now (a .tracked))) (a .limit) 4095 _ (omega arith) (p .table))
+gather-requires c κs =
+    let a = c .before .before .before .before .before .args in
+    let p = c .before .before .before .before .before .pre in (
+      listed-sixteen (a .cache .ways) (a .cache .sets) (now (a .tracked)) _ (aims (c .before .before)) (p .ranges .few-tracked),
+      p .ranges .few-ways,
+      p .count,
+      omega (arith, p .slot, p .count),
+      p .room,
+      p .aside,
+      workable (a .cache .ways) (a .cache .sets) (now (a .tracked)) _ (aims (c .before .before)) (a .limit) 4095 _ (omega arith) (p .table),
+    )
 
 settle-requires : tie.Need-settle-requires
-settle-requires c κs = let a = c .before .before .before .before .before .before .before .before .args in
-    let p = c .before .before .before .before .before .before .before .before .pre in
-    let fits = gathered-fits (a .ways) (length (now (a .tracked))) (a .limit) 4095 _ _ _ _ _ (p .ranges .some-ways) (p .ranges .few-ways) (p .ranges .some-states) (p .ranges .few-states) (p .table) (c .before .before .before .gather .ensures .0) in
-    (omega (arith, p .room, c .before .before .before .gather .kept .0), p .slot, fits .0, p .ranges .some-states, p .ranges .few-states, fits .1)
+settle-requires c κs =
+    let a = c .before .before .before .before .before .before .before .before .before .args in
+    let p = c .before .before .before .before .before .before .before .before .before .pre in
+    let g = c .before .before .before .gather in
+    let fits = gathered-fits (a .cache) (now (a .tracked)) (a .limit) 4095 _ _ _ _ _ (p .ranges) (aims (c .before .before .before .before .before .before)) (p .table) (g .ensures .0) in
+    (omega (arith, p .room, g .kept .0), p .slot, fits .0, p .ranges .some-states, p .ranges .few-states, fits .1)
 
 returns : tie.Need-returns
-returns c = let a = c .before .before .before .before .before .before .before .before .before .before .before .args in
-    let p = c .before .before .before .before .before .before .before .before .before .before .before .pre in
+returns c =
+    let a = c .before .before .before .before .before .before .before .before .before .before .before .before .args in
     let g = c .before .before .before .before .before .before .gather in
-    advanced (a .ways) (a .limit) (c .before .before .before .before .before .before .before .before .look-up .result) _ (workAt (a .at) (a .tally .states) (a .tally .aside .0) (now (a .work))) (a .at) _ _ _ _ _ _ _ (c .before .before .before .before .before .before .before .before .look-up .ensures) (omega (arith, p .slot)) (g .ensures .0) (g .ensures .1) (c .before .before .settle .ensures)
+    let x = c .before .before .before .before .before .before .before .before .before .aim in
+    advanced (a .cache .ways) (a .limit) (x .result) _ (workAt (a .at) (a .tally .states) (a .tally .aside .0) (now (a .work))) (a .at) _ _ _ _ _ _ _ (x .ensures) (omega (arith, c .before .before .before .before .before .before .before .before .before .before .before .before .pre .slot)) (g .ensures .0) (g .ensures .1) (c .before .before .settle .ensures)
 
 pub advance-spec : {M : Type 1} → statement M
 advance-spec =
     tie.close
     (tie.spec
-    (λ c κs. search needs)
+    aim-requires
+    (λ c. search needs)
     gather-requires
     settle-requires
     (λ c. search needs)
