@@ -69,14 +69,17 @@ static void make_pool(struct generator *from, uint32_t *pool, size_t count)
     shuffle(from, pool, count);
 }
 
-/* The tracked blocks are the first of a pool; the accesses are drawn from all of it. */
+/* The tracked blocks are the first of a pool; the accesses are drawn from all of it, in every second input often the one before again. */
 static void make_blocks(struct generator *from, struct input *input, size_t pool_count)
 {
     uint32_t pool[MOST_POOL];
+    bool again = one_in(from, 2);
     make_pool(from, pool, pool_count);
     memcpy(input->tracked, pool, input->tracked_count * sizeof *pool);
-    for (size_t i = 0; i < input->access_count; i++)
-        input->accesses[i] = pool[draw_below(from, (uint32_t)pool_count)];
+    for (size_t i = 0; i < input->access_count; i++) {
+        bool repeated = again && i > 0 && one_in(from, 3);
+        input->accesses[i] = repeated ? input->accesses[i - 1] : pool[draw_below(from, (uint32_t)pool_count)];
+    }
 }
 
 /* Cuts the accesses into a run for each node, by random cuts in order; some runs are empty. */

@@ -1,4 +1,4 @@
-/* Document 01 in plain C, with request 1/13 of document 02. The section or clause that a function follows stands above it. */
+/* Document 01 in plain C, with requests 1/13 and 3/13 of document 02. The section or clause that a function follows stands above it. */
 #include "plain.h"
 
 #include <inttypes.h>
@@ -29,10 +29,17 @@ struct table {
     struct plain_state states[MOST_SUCCESSORS];
 };
 
-/* The table a node ends with, after the fold. */
+/* 3/13: the block that was accessed directly before on every path that leads here, where that is known. */
+struct last {
+    bool known;
+    uint32_t block;
+};
+
+/* What a node ends with: the table after the fold, and the last block. */
 struct node_table {
     size_t count;
     struct plain_state states[MOST_STATES];
+    struct last last;
 };
 
 /* ---- Tables in order ---- */
@@ -226,16 +233,26 @@ static void step(const struct table *table, struct table *next, struct target to
     fold(next, graph->limit, aside);
 }
 
-/* Section 2: "Each node's run is a stretch of the one access list". */
-static void work_run(struct table *table, const struct plain_input *graph, const uint64_t *mates, size_t first, size_t length,
-                     uint64_t *aside)
+/* 3/13: "An access to the untracked block that was accessed directly before on the path is a hit and changes nothing." The bit of an
+ * untracked block is 0. */
+static bool is_repeated(const struct last *last, uint64_t bit, uint32_t block)
+{
+    return bit == 0 && last->known && last->block == block;
+}
+
+/* Section 2: "Each node's run is a stretch of the one access list". 3/13: "An empty run passes the last block on". */
+static void work_run(struct table *table, struct last *last, const struct plain_input *graph, const uint64_t *mates, size_t first,
+                     size_t length, uint64_t *aside)
 {
     struct table next;
     for (size_t i = first; i < first + length; i++) {
         uint32_t block = graph->accesses[i];
         struct target to = {look_up(graph, block), mates[block % graph->sets]};
+        if (is_repeated(last, to.bit, block))
+            continue;
         step(table, &next, to, graph, aside);
         copy_states(table, next.states, next.count);
+        *last = (struct last){true, block};
     }
 }
 
@@ -261,18 +278,27 @@ static void join(struct table *joined, const struct table *left, const struct no
     }
 }
 
+/* 3/13: "at a join it is known only where all predecessors agree" */
+static void join_last(struct last *last, const struct last *other)
+{
+    last->known = last->known && other->known && last->block == other->block;
+}
+
 /* "start from the lowest predecessor's table and join the others in rising order, one table at a time; each is a join of its own, folded
  * before the next." The edges of a node stand together, beginning with number `edge`; gives the number of the first after them. */
-static size_t enter_node(struct table *table, const struct plain_input *graph, const struct node_table *done, size_t node, size_t edge,
-                         uint64_t *aside)
+static size_t enter_node(struct table *table, struct last *last, const struct plain_input *graph, const struct node_table *done,
+                         size_t node, size_t edge, uint64_t *aside)
 {
     struct table joined;
     const struct node_table *lowest = &done[graph->edges[2 * edge]];
     copy_states(table, lowest->states, lowest->count);
+    *last = lowest->last;
     for (edge++; edge < graph->edge_numbers / 2 && graph->edges[2 * edge + 1] == node; edge++) {
-        join(&joined, table, &done[graph->edges[2 * edge]]);
+        const struct node_table *other = &done[graph->edges[2 * edge]];
+        join(&joined, table, other);
         fold(&joined, graph->limit, aside);
         copy_states(table, joined.states, joined.count);
+        join_last(last, &other->last);
     }
     return edge;
 }
@@ -282,17 +308,19 @@ static void work_nodes(const struct plain_input *graph, struct table *table, uin
 {
     struct node_table done[MOST_NODES];
     uint64_t mates[MOST_SETS];
+    struct last last = {false, 0};
     size_t edge = 0, first = 0;
     find_mates(graph, mates);
     for (size_t node = 0; node < graph->nodes; node++) {
         if (node == 0)
             start_table(table);
         else
-            edge = enter_node(table, graph, done, node, edge, aside);
-        work_run(table, graph, mates, first, graph->runs[node], aside);
+            edge = enter_node(table, &last, graph, done, node, edge, aside);
+        work_run(table, &last, graph, mates, first, graph->runs[node], aside);
         first += graph->runs[node];
         done[node].count = table->count;
         memcpy(done[node].states, table->states, table->count * sizeof *table->states);
+        done[node].last = last;
     }
 }
 

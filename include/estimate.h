@@ -7,7 +7,7 @@
  *
  * A call keeps no state: nothing is left of it but what it wrote to the memory that it was lent. So the functions are reentrant, and calls may run at the same
  * time, in threads or one interrupting another, as long as what each is lent for writing is lent to it alone. They use no heap, and no memory but what they
- * are lent and the stack, of which 4,096 bytes are enough: no function calls itself, and a painted stack showed 736 bytes for the graph call and 3,272 for the
+ * are lent and the stack, of which 4,096 bytes are enough: no function calls itself, and a painted stack showed 1,760 bytes for the graph call and 3,272 for the
  * deepest, a question put to a row of states, on each of the large inputs that were tried.
  *
  * Linked from libestimate_c.a, for x86-64, which takes of the C library only memcpy and memset. `rt staticlib estimate_c` makes it:

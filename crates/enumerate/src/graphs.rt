@@ -1,4 +1,5 @@
 // Small branching graphs. Edges are written from, to, from, to.
+use crate::numbers::times;
 use crate::report::Report;
 use crate::sweep::one_set;
 use crate::sweep::sweep;
@@ -21,14 +22,23 @@ fn on_one_set(runs: &[u32], edges: &[u32], length: usize, stride: u64, report: R
     sweep(one_set(2), &[2], 3, runs, edges, length, stride, three)
 }
 
-// And on two and four sets: 1 and 3 belong to one of the two.
+// And on two and four sets: 1 and 3 belong to one of the two, 1 and 5 to one of the four.
 fn graph(runs: &[u32], edges: &[u32], length: usize, stride: u64, report: Report) -> Report {
     let two = Cache { sets: 2, ways: 2 };
     let four = Cache { sets: 4, ways: 1 };
     let one = on_one_set(runs, edges, length, stride, report);
     let all = sweep(two, &[3, 1, 2], 3, runs, edges, length, stride, one);
     let some = sweep(two, &[1, 2], 3, runs, edges, length, stride, all);
-    sweep(four, &[2, 1], 3, runs, edges, length, stride, some)
+    sweep(
+        four,
+        &[5, 1],
+        5,
+        runs,
+        edges,
+        length,
+        times(stride, 11),
+        some,
+    )
 }
 
 // Nodes 1 and 2 between 0 and 3: the two sides of a branch.

@@ -72,9 +72,9 @@ fn on_two_sets(report: Report) -> Report {
 
 // Four sets: 1 and 5 belong to one, each other block has one to itself.
 fn on_four_sets(report: Report) -> Report {
-    let one = short_runs(Cache { sets: 4, ways: 1 }, &[5, 2, 1], 5, 5, report);
-    let two = runs_of(Cache { sets: 4, ways: 2 }, &[1, 5, 4, 2], 5, 6, 7, one);
-    runs_of(Cache { sets: 4, ways: 3 }, &[5, 3, 1], 5, 6, 29, two)
+    let one = short_runs(Cache { sets: 4, ways: 1 }, &[5, 2, 1], 5, 4, report);
+    let two = runs_of(Cache { sets: 4, ways: 2 }, &[1, 5, 4, 2], 5, 6, 47, one);
+    runs_of(Cache { sets: 4, ways: 3 }, &[5, 3, 1], 5, 6, 97, two)
 }
 
 pub(crate) fn all_straight(report: Report) -> Report {

@@ -19,7 +19,7 @@ use Rattle.rules.specs.declared.State.{State}
 use Rattle.basics.specs.Sums.{sumOver}
 use Rattle.basics.proofs.Sums.{sum-append}
 use Rattle.rules.specs.Units.{whole, more}
-use Rattle.rules.specs.Contents.{bit, has, heldBelow, held, size, without, atRisk}
+use Rattle.rules.specs.Contents.{bit, hits, heldBelow, held, size, without, atRisk}
 use Rattle.rules.specs.Ordered.{insertAll}
 use Rattle.rules.specs.Table.{state, unitsOf, rising, present, add, stateAt}
 use Rattle.rules.specs.Step.{missed, miss, successors, leftOver, access, accessAside}
@@ -158,21 +158,21 @@ module _ (x : Target) (s : State) (E N q : ℕ) where
 -- ---- a hit or a miss
 
 module _ (N : ℕ) (x : Target) (s : State) (n r : ℕ) (T T′ : List State) where
-  pub hit-put : has (s .mask) (x .place) ≡ true → Added (s ∷ []) n r T T′ → Added (successors N x s) n r T T′
+  pub hit-put : hits x (s .mask) ≡ true → Added (s ∷ []) n r T T′ → Added (successors N x s) n r T T′
   unfolding successors
   hit-put h a = rw h a
 
-  pub miss-goes : has (s .mask) (x .place) ≡ false → Added (miss N x s) n r T T′ → Added (successors N x s) n r T T′
+  pub miss-goes : hits x (s .mask) ≡ false → Added (miss N x s) n r T T′ → Added (successors N x s) n r T T′
   unfolding successors
   miss-goes h a = rw h a
 
 -- what is set aside of a state
 module _ (N : ℕ) (x : Target) (s : State) where
-  pub over-none : has (s .mask) (x .place) ≡ true → 0 ≡ leftOver N x s
+  pub over-none : hits x (s .mask) ≡ true → 0 ≡ leftOver N x s
   unfolding leftOver
   over-none h = rw h
 
-  pub over-rest : has (s .mask) (x .place) ≡ false → (p : ℕ) → p ≡ unitsOf s % N → p ≡ leftOver N x s
+  pub over-rest : hits x (s .mask) ≡ false → (p : ℕ) → p ≡ unitsOf s % N → p ≡ leftOver N x s
   unfolding leftOver
   over-rest h p e = rw h e
 

@@ -9,6 +9,7 @@ use lib.ListN.{length, getD, set, take, drop, replicate, length-drop, length-tak
 use lib.Seq.{paste, take-take}
 use borrow.Author.Tests.{eq-eqb, ne-eqb}
 use Rattle.rules.specs.declared.Cache.{Cache}
+use Rattle.rules.specs.declared.Last.{Last}
 use Rattle.rules.specs.declared.State.{State}
 use Rattle.rules.specs.Units.{whole}
 use Rattle.rules.specs.Contents.{among}
@@ -18,7 +19,7 @@ use Rattle.rules.specs.Fold.{folded}
 use Rattle.rules.specs.Join.{join}
 use Rattle.rules.specs.Run.{run}
 use Rattle.rules.specs.Input.{Input, cache, nodes, offset, runOf, edgesOf, predecessors}
-use Rattle.rules.specs.Graph.{Worked, tableAt, joinAll, enter, node, worked}
+use Rattle.rules.specs.Graph.{Worked, tableAt, joinAll, enter, lastBefore, lastsTo, node, worked}
 use Rattle.rules.proofs.Lookup.{among-every}
 use Rattle.rules.proofs.Refusals.{Checked, predecessor-lower}
 use Rattle.rules.proofs.Run.{table-wider, table-run}
@@ -156,7 +157,7 @@ module _ (K j a₀ : ℕ) (T₀ : List State) where
 
 -- ---- one node
 
-every-among : (P : ℕ → Type 0) (ps : List ℕ) → ((p : ℕ) → among ps p ≡ true → P p) → Every P ps
+pub every-among : (P : ℕ → Type 0) (ps : List ℕ) → ((p : ℕ) → among ps p ≡ true → P p) → Every P ps
 every-among P [] h = tt
 every-among P (q ∷ ps) h = let (a, b) = first-and-others P q ps h in (a, every-among P ps b)
 
@@ -181,13 +182,13 @@ module _ (c : Cache) (ts : List ℕ) (K M j a : ℕ) (es ws : List ℕ) (s : Sta
       t = table-enter (c .ways) (c .sets) ts K (s .ranges .some-ways) (s .ranges .some-states) M (workedIn j a (tableOf ws)) (predecessors (edgesOf es) j) left
 
 -- its run leaves a table
-module _ (c : Cache) (ts : List ℕ) (K p n a : ℕ) (bs ws : List ℕ) (short : length bs ≤ 4096) (r : Ready c ts K (4096 - length bs) p n a ws) where
-  node-table : Table (c .ways) (c .sets) ts K 4096 (run (c .ways) (c .sets) K ts bs (workAt p n a ws) .table)
+module _ (c : Cache) (ts : List ℕ) (K p n a : ℕ) (l : Last) (bs ws : List ℕ) (short : length bs ≤ 4096) (r : Ready c ts K (4096 - length bs) p n a ws) where
+  node-table : Table (c .ways) (c .sets) ts K 4096 (run (c .ways) (c .sets) K ts l bs (workAt p n a ws) .table)
   node-table =
       table-wider (c .ways) (c .sets) ts K (length bs + (4096 - length bs)) 4096 _ (omega arith)
-      (table-run (c .ways) (c .sets) K ts (r .ranges .some-ways) (r .ranges .some-states) (4096 - length bs) bs (workAt p n a ws) (r .table))
+      (table-run (c .ways) (c .sets) K ts (r .ranges .some-ways) (r .ranges .some-states) (4096 - length bs) l bs (workAt p n a ws) (r .table))
 
-  pub node-few : (m b : ℕ) (T : List State) → InPlace (run (c .ways) (c .sets) K ts bs (workAt p n a ws)) p m b (tableOf ws) T → m ≤ 64
+  pub node-few : (m b : ℕ) (T : List State) → InPlace (run (c .ways) (c .sets) K ts l bs (workAt p n a ws)) p m b (tableOf ws) T → m ≤ 64
   node-few m b T g = omega (arith, g .stands .count, node-table .short, r .ranges .few-states)
 
 some-units : (N Z : ℕ) (ts : List ℕ) (M : ℕ) (T : List State) → Every (Shaped N Z ts M) T → Every (λ s. 1 ≤ unitsOf s) T
@@ -195,13 +196,13 @@ some-units N Z ts M [] h = tt
 some-units N Z ts M (s ∷ T) h = (h .0 .1, some-units N Z ts M T (h .1))
 
 -- which is found again in its slot
-pub node-done : (c : Cache) (ts : List ℕ) (K j a n a₁ m b : ℕ) (bs es ws ws₁ ws₂ : List ℕ) (T : List State) → length bs ≤ 4096
+pub node-done : (c : Cache) (ts : List ℕ) (K j a n a₁ m b : ℕ) (l : Last) (bs es ws ws₁ ws₂ : List ℕ) (T : List State) → length bs ≤ 4096
     → Startable c ts K (4096 - length bs) j a es ws
     → length ws₁ ≡ length ws → InPlace (enter K (workedIn j a (tableOf ws)) (predecessors (edgesOf es) j)) (j * 64) n a₁ (tableOf ws) (tableOf ws₁)
-    → length ws₂ ≡ length ws₁ → InPlace (run (c .ways) (c .sets) K ts bs (workAt (j * 64) n a₁ ws₁)) (j * 64) m b (tableOf ws₁) (tableOf ws₂)
+    → length ws₂ ≡ length ws₁ → InPlace (run (c .ways) (c .sets) K ts l bs (workAt (j * 64) n a₁ ws₁)) (j * 64) m b (tableOf ws₁) (tableOf ws₂)
     → T ≡ paste (tableOf ws₂) (j * 64 + m) (replicate 64 (state 0 0 0)) (64 - m)
-    → NodeDone (run (c .ways) (c .sets) K ts bs (enter K (workedIn j a (tableOf ws)) (predecessors (edgesOf es) j))) j b (tableOf ws) T
-node-done c ts K j a n a₁ m b bs es ws ws₁ ws₂ T short s e g f h q =
+    → NodeDone (run (c .ways) (c .sets) K ts l bs (enter K (workedIn j a (tableOf ws)) (predecessors (edgesOf es) j))) j b (tableOf ws) T
+node-done c ts K j a n a₁ m b l bs es ws ws₁ ws₂ T short s e g f h q =
     rw (← stands-work _ (j * 64) n a₁ ws₁ (tableOf ws) g)
     record {
       table = seal-table (tableOf ws₂) T X j m room few (h .stands .count) (h .stands .table) q (some-units (c .ways) (c .sets) ts 4096 X (t .shaped));
@@ -210,16 +211,16 @@ node-done c ts K j a n a₁ m b bs es ws ws₁ ws₂ T short s e g f h q =
     }
   where
     X : List State
-    X = run (c .ways) (c .sets) K ts bs (workAt (j * 64) n a₁ ws₁) .table
+    X = run (c .ways) (c .sets) K ts l bs (workAt (j * 64) n a₁ ws₁) .table
 
     r : Ready c ts K (4096 - length bs) (j * 64) n a₁ ws₁
     r = entered-ready c ts K (4096 - length bs) j a es ws s n a₁ ws₁ e g
 
     t : Table (c .ways) (c .sets) ts K 4096 X
-    t = node-table c ts K (j * 64) n a₁ bs ws₁ short r
+    t = node-table c ts K (j * 64) n a₁ l bs ws₁ short r
 
     few : m ≤ 64
-    few = node-few c ts K (j * 64) n a₁ bs ws₁ short r m b (tableOf ws₂) h
+    few = node-few c ts K (j * 64) n a₁ l bs ws₁ short r m b (tableOf ws₂) h
 
     room : j * 64 + 64 ≤ length (tableOf ws₂)
     room = omega (arith, s .node, fits-table ws₂ 5184 (omega (arith, f, e, s .room)))
@@ -262,12 +263,12 @@ module _ (i : Input) (ok : Checked i) (j : ℕ) (l : j < nodes i) where
       tables p k = sym (tablesIn-at j (tableOf ws) p k) ∙ ap (λ (d : Worked). tableAt d p) d ∙ table-stays i j p k
 
   -- and then one more is
-  pub nodes-next : (a b : ℕ) (T T′ : List State) → workedIn j a T ≡ worked i j
-      → NodeDone (run (i .ways) (i .sets) (i .limit) (i .tracked) (runOf i j) (enter (i .limit) (workedIn j a T) (predecessors (edgesOf (i .edges)) j))) j b T T′
+  pub nodes-next : (a b : ℕ) (l : Last) (T T′ : List State) → workedIn j a T ≡ worked i j → l ≡ lastBefore (lastsTo i j) (predecessors (edgesOf (i .edges)) j)
+      → NodeDone (run (i .ways) (i .sets) (i .limit) (i .tracked) l (runOf i j) (enter (i .limit) (workedIn j a T) (predecessors (edgesOf (i .edges)) j))) j b T T′
       → workedIn (suc j) b T′ ≡ worked i (suc j)
   unfolding worked node tablesIn
-  nodes-next a b T T′ d h =
+  nodes-next a b l T T′ d e h =
       ap₂ (λ (X : List (List State)) (b : ℕ). record { tables = X; aside = b })
       (ap₂ (λ (X : List (List State)) (Y : List State). X ++ (Y ∷ [])) (tablesIn-kept j (j * 64) T T′ (omega arith) (h .before)) (h .table)) (h .aside)
-      ∙ ap (λ (d : Worked). let w = run (i .ways) (i .sets) (i .limit) (i .tracked) (runOf i j) (enter (i .limit) d (predecessors (edgesOf (i .edges)) j)) in
-      record { tables = d .tables ++ (w .table ∷ []); aside = w .aside }) d
+      ∙ ap₂ (λ (d : Worked) (l : Last). let w = run (i .ways) (i .sets) (i .limit) (i .tracked) l (runOf i j) (enter (i .limit) d (predecessors (edgesOf (i .edges)) j)) in
+      record { tables = d .tables ++ (w .table ∷ []); aside = w .aside }) d e

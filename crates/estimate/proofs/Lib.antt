@@ -16,6 +16,8 @@ pub mod Nodes
 pub mod Settling
 -- Graphs
 pub mod Graphs
+-- The block accessed directly before
+pub mod Lasts
 -- What a call leaves
 pub mod Calls
 -- and that it can be asked

@@ -1,7 +1,7 @@
 -- Masks as 64-bit numbers: a shifted 1, and the count of set bits. Looking up a block from the front of the list on, and the mask of a set
 -- from its end.
 use mathlib.Core.Path.{_≡_, refl, sym, ap, ap₂, _∙_}
-use mathlib.Core.Bool.{true, cond}
+use mathlib.Core.Bool.{Bool, true, cond}
 use mathlib.Core.List.{List}
 use Prim.Native.Nat.{ℕ, zero, suc, _+_, _-_, _*_, _/_, _%_, _^_, _≤_, _<_}
 use native.Mathlib.Nat.{one-mul, zero-add, add-zero, le-refl, lt-of-lt-of-le}
@@ -15,9 +15,10 @@ use lib.Pow.{shl-exact, field, mod-mod-pow, pow-mono}
 use lib.Seq.{drop-cons}
 use borrow.Author.Tests.{eq-eqb, ne-eqb}
 use Rattle.basics.proofs.Sums.{sumOn}
+use Rattle.rules.specs.declared.Last.{Last}
 use Rattle.rules.specs.declared.Place.{Place}
 use Rattle.rules.specs.declared.Place.the-variants.{At as at, Untracked as untracked}
-use Rattle.rules.specs.Contents.{among, bit, size, find, further, maskOf, ofSet, targetOf}
+use Rattle.rules.specs.Contents.{among, bit, size, find, further, maskOf, ofSet, isLast, targetOf}
 use Rattle.rules.specs.Refusals.{setCounts}
 use Rattle.rules.proofs.Bits.{bit-low, bit-rest}
 use Rattle.rules.proofs.Contents.{size-sum, sixteen-places}
@@ -121,6 +122,7 @@ module _ (Z : ℕ) (ts : List ℕ) (j : ℕ) where
       short = omega (arith, length-drop i ts)
 
 -- what an access is after, found out in parts
-pub aimed-at : (Z : ℕ) (ts : List ℕ) (b : ℕ) (x : Place) (j m : ℕ) → x ≡ find ts b → j ≡ b % Z → m ≡ ofSet Z ts j → record { place = x; set = j; mates = m } ≡ targetOf Z ts b
+pub aimed-at : (Z : ℕ) (ts : List ℕ) (l : Last) (b : ℕ) (x : Place) (a : Bool) (j m : ℕ) → x ≡ find ts b → a ≡ isLast l b → j ≡ b % Z → m ≡ ofSet Z ts j
+    → record { place = x; again = a; set = j; mates = m } ≡ targetOf Z ts l b
 unfolding targetOf
-aimed-at Z ts b x j m p q r = rw (r, q, p) refl
+aimed-at Z ts l b x a j m p o q r = rw (r, q, p, o) refl

@@ -7,6 +7,8 @@ use native.Mathlib.Omega.{arith}
 use lib.ListN.{length, take, drop, getD, length-drop, drop-of-length-le}
 use lib.Seq.{paste, drop-cons}
 use Rattle.rules.specs.declared.Cache.{Cache}
+use Rattle.rules.specs.declared.Last.{Last}
+use Rattle.rules.specs.declared.Last.the-variants.{Block as block}
 use Rattle.rules.specs.declared.Target.{Target}
 use Rattle.rules.specs.declared.State.{State}
 use Rattle.rules.specs.Units.{whole, more}
@@ -67,8 +69,8 @@ module _ (N Z : ℕ) (ts : List ℕ) (x : Target) (aim : Aimed Z ts x) where
   listed-sixteen few i p = omega (arith, few, aim .placed i p)
 
 -- what is found out about a block is what an access to it is after
-pub aimed-so : (Z : ℕ) (ts : List ℕ) (b : ℕ) (x : Target) → x ≡ targetOf Z ts b → Aimed Z ts x
-aimed-so Z ts b x e = rw e (aimed Z ts b)
+pub aimed-so : (Z : ℕ) (ts : List ℕ) (l : Last) (b : ℕ) (x : Target) → x ≡ targetOf Z ts l b → Aimed Z ts x
+aimed-so Z ts l b x e = rw e (aimed Z ts l b)
 
 -- what is gathered can be settled
 pub gathered-fits : (c : Cache) (ts : List ℕ) (K M : ℕ) (x : Target) (T : List State) (r : ℕ) (T₀ T₁ : List State) → InRange c ts K → Aimed (c .sets) ts x
@@ -90,18 +92,19 @@ advanced N K x y w at r a m b T T₁ T₂ p low g q h = rw (← p) (settled-from
 
 -- ---- accesses one after the other
 
--- as far as access i, from w
+-- as far as access i, from w and the last block l; k is the last block then
 module _ (N Z K : ℕ) (ts bs : List ℕ) where
-  abbrev pub Ran : ℕ → Work → Work → Type 0
-  Ran i v w = run N Z K ts (drop i bs) v ≡ run N Z K ts bs w
+  abbrev pub Ran : ℕ → Last → Work → Last → Work → Type 0
+  Ran i k v l w = run N Z K ts k (drop i bs) v ≡ run N Z K ts l bs w
 
-  pub ran-next : (i : ℕ) (v w : Work) (b : ℕ) → i < length bs → b ≡ getD bs i 0 → Ran i v w → Ran (suc i) (advance N K (targetOf Z ts b) v) w
+  pub ran-next : (i : ℕ) (k : Last) (v : Work) (l : Last) (w : Work) (b : ℕ) → i < length bs → b ≡ getD bs i 0 → Ran i k v l w
+      → Ran (suc i) (block b) (advance N K (targetOf Z ts k b) v) l w
   unfolding run
-  ran-next i v w b l e h = rw e (sym (ap (λ (cs : List ℕ). run N Z K ts cs v) (drop-cons bs i 0 l))) ∙ h
+  ran-next i k v l w b here e h = rw e (sym (ap (λ (cs : List ℕ). run N Z K ts k cs v) (drop-cons bs i 0 here))) ∙ h
 
-  ran-all : (i : ℕ) (v w : Work) → length bs ≤ i → Ran i v w → v ≡ run N Z K ts bs w
+  ran-all : (i : ℕ) (k : Last) (v : Work) (l : Last) (w : Work) → length bs ≤ i → Ran i k v l w → v ≡ run N Z K ts l bs w
   unfolding run
-  ran-all i v w l h = sym (ap (λ (cs : List ℕ). run N Z K ts cs v) (drop-of-length-le bs {i = i} l)) ∙ h
+  ran-all i k v l w past h = sym (ap (λ (cs : List ℕ). run N Z K ts k cs v) (drop-of-length-le bs {i = i} past)) ∙ h
 
 -- the work at a place is what stands there
 pub stands-work : (w : Work) (at n a : ℕ) (ws : List ℕ) (T : List State) → InPlace w at n a T (tableOf ws) → workAt at n a ws ≡ w
@@ -119,29 +122,29 @@ ready-wider c ts K M L at n a ws l r =
       table = table-wider (c .ways) (c .sets) ts K M L (workAt at n a ws .table) l (r .table);
     }
 
-pub ready-next : (c : Cache) (ts : List ℕ) (K L M at n a n′ a′ : ℕ) (b : ℕ) (ws ws′ : List ℕ) → suc L ≤ M → length ws′ ≡ length ws → Ready c ts K L at n a ws
-    → InPlace (advance (c .ways) K (targetOf (c .sets) ts b) (workAt at n a ws)) at n′ a′ (tableOf ws) (tableOf ws′) → Ready c ts K M at n′ a′ ws′
-ready-next c ts K L M at n a n′ a′ b ws ws′ l e r g =
+pub ready-next : (c : Cache) (ts : List ℕ) (K L M at n a n′ a′ : ℕ) (k : Last) (b : ℕ) (ws ws′ : List ℕ) → suc L ≤ M → length ws′ ≡ length ws → Ready c ts K L at n a ws
+    → InPlace (advance (c .ways) K (targetOf (c .sets) ts k b) (workAt at n a ws)) at n′ a′ (tableOf ws) (tableOf ws′) → Ready c ts K M at n′ a′ ws′
+ready-next c ts K L M at n a n′ a′ k b ws ws′ l e r g =
     record {
       ranges = r .ranges;
       room = rw e (r .room);
       slot = r .slot;
       count = omega (arith, g .stands .count, t .short, r .ranges .few-states);
-      aside = rw (g .stands .aside) (advance-aside (c .ways) (c .sets) ts K (r .ranges .some-ways) (r .ranges .some-states) (targetOf (c .sets) ts b) (workAt at n a ws));
+      aside = rw (g .stands .aside) (advance-aside (c .ways) (c .sets) ts K (r .ranges .some-ways) (r .ranges .some-states) (targetOf (c .sets) ts k b) (workAt at n a ws));
       table = rw (g .stands .table) t;
     }
   where
-    t : Table (c .ways) (c .sets) ts K M (advance (c .ways) K (targetOf (c .sets) ts b) (workAt at n a ws) .table)
+    t : Table (c .ways) (c .sets) ts K M (advance (c .ways) K (targetOf (c .sets) ts k b) (workAt at n a ws) .table)
     t =
         table-wider (c .ways) (c .sets) ts K (suc L) M _ l
-        (table-advance (c .ways) (c .sets) ts K (r .ranges .some-ways) (r .ranges .some-states) L (targetOf (c .sets) ts b) (workAt at n a ws) (aimed (c .sets) ts b)
+        (table-advance (c .ways) (c .sets) ts K (r .ranges .some-ways) (r .ranges .some-states) L (targetOf (c .sets) ts k b) (workAt at n a ws) (aimed (c .sets) ts k b)
         (r .table))
 
 -- when no access is to come, the table stands where it is to
-pub ran-stands : (c : Cache) (ts : List ℕ) (K M at n a i : ℕ) (bs ws : List ℕ) (w : Work) (T : List State) → length bs ≤ i → Ready c ts K M at n a ws
-    → take at (tableOf ws) ≡ take at T → Ran (c .ways) (c .sets) K ts bs i (workAt at n a ws) w → InPlace (run (c .ways) (c .sets) K ts bs w) at n a T (tableOf ws)
-ran-stands c ts K M at n a i bs ws w T l r e h =
-    rw (← ran-all (c .ways) (c .sets) K ts bs i (workAt at n a ws) w l h)
+pub ran-stands : (c : Cache) (ts : List ℕ) (K M at n a i : ℕ) (bs ws : List ℕ) (k l : Last) (w : Work) (T : List State) → length bs ≤ i → Ready c ts K M at n a ws
+    → take at (tableOf ws) ≡ take at T → Ran (c .ways) (c .sets) K ts bs i k (workAt at n a ws) l w → InPlace (run (c .ways) (c .sets) K ts l bs w) at n a T (tableOf ws)
+ran-stands c ts K M at n a i bs ws k l w T past r e h =
+    rw (← ran-all (c .ways) (c .sets) K ts bs i k (workAt at n a ws) l w past h)
     record {
       stands = record { count = sym (stretch-long at n (tableOf ws) (omega (arith, r .slot, r .count, fits-table ws 5184 (r .room)))); table = refl; aside = refl };
       before = e;

@@ -101,7 +101,7 @@ pub(crate) fn follow(words: &mut [u64], n: usize, s: State, x: Target, ways: u64
     ensures { λ r. ⌜ Added (successors ways x s) n r (tableOf (now (words .entry))) (tableOf (now (words .exit))) ⌝ }
 {
     let place = x.place;
-    if has_block(s.mask, place) {
+    if has_block(s.mask, x.again, place) {
         return add(words, n, s);
     }
     miss(words, n, s, x, ways)
@@ -121,7 +121,7 @@ pub(crate) fn left_over(s: State, x: Target, ways: u64) -> Units
     ensures { λ r. ⌜ r .0 ≡ leftOver ways x s ⌝ }
 {
     let place = x.place;
-    if has_block(s.mask, place) {
+    if has_block(s.mask, x.again, place) {
         return Units(0);
     }
     let u = s.units;

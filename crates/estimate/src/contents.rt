@@ -1,4 +1,6 @@
 // Contents as masks, and what an access is after: looking up a block, and the tracked blocks of its set.
+use crate::last::is_last;
+use rules::Last;
 use rules::Place;
 use rules::Target;
 ghost use mathlib.Core.Path.{_≡_};
@@ -42,14 +44,14 @@ pub(crate) fn size_of(mask: u64) -> u64
     u64::count_ones(mask % 65536) as u64
 }
 
-// Whether the block that was looked up is held: an untracked one is never surely held.
-pub(crate) fn has_block(mask: u64, x: Place) -> bool
+// Whether the block that was looked up is surely held: an untracked one where it was accessed directly before.
+pub(crate) fn has_block(mask: u64, again: bool, x: Place) -> bool
     requires { ⌜ Listed 16 x ⌝ }
-    ensures { λ r. ⌜ r ≡ has mask x ⌝ }
+    ensures { λ r. ⌜ r ≡ has mask again x ⌝ }
 {
     match x {
         Place::At(i) => has_place(mask, i),
-        Place::Untracked => false,
+        Place::Untracked => again,
     }
 }
 
@@ -103,14 +105,15 @@ pub(crate) fn mates_of(tracked: &[u32], sets: u32, set: u32) -> u64
     mask
 }
 
-// What an access to `block` is after.
-pub(crate) fn aim(tracked: &[u32], sets: u32, block: u32) -> Target
+// What an access to `block` is after, where `last` was accessed directly before.
+pub(crate) fn aim(tracked: &[u32], sets: u32, last: Last, block: u32) -> Target
     requires { ⌜ (length (now tracked) ≤ 16) × (among setCounts sets ≡ true) ⌝ }
-    ensures { λ r. ⌜ r ≡ targetOf sets (now (tracked .entry)) block ⌝ }
+    ensures { λ r. ⌜ r ≡ targetOf sets (now (tracked .entry)) last block ⌝ }
 {
     let set = block & (sets - 1);
     Target {
         place: look_up(tracked, block),
+        again: is_last(last, block),
         set,
         mates: mates_of(tracked, sets, set),
     }

@@ -1,4 +1,6 @@
 // Nodes one after the other, each from the joined tables of its predecessors.
+use crate::last::last_after;
+use crate::last::last_before;
 use crate::memory::copy;
 use crate::memory::store;
 use crate::run::join_to;
@@ -7,6 +9,7 @@ use crate::slots::count;
 use crate::slots::seal;
 use crate::states::Tally;
 use rules::Cache;
+use rules::Last;
 use rules::State;
 use rules::Units;
 ghost use mathlib.Core.Path.{_≡_};
@@ -84,11 +87,12 @@ pub(crate) fn enter(work: &mut [u64], to: usize, edges: &[u32], aside: Units, li
     join_others(work, to, Tally { states: n, aside }, edges, e + 2, limit)
 }
 
-// Node `j`, whose run is `accesses`, after the nodes before it; all units set aside so far.
+// Node `j`, whose run is `accesses`, after the nodes before it, where `last` was accessed directly before; all units set aside so far.
 pub(crate) fn work_node(
     work: &mut [u64],
     j: usize,
     aside: Units,
+    last: Last,
     accesses: &[u32],
     edges: &[u32],
     tracked: &[u32],
@@ -96,10 +100,10 @@ pub(crate) fn work_node(
     limit: usize,
 ) -> Units
     requires { ⌜ (length (now accesses) ≤ 4096) × Startable cache (now tracked) limit (4096 - length (now accesses)) j (aside .0) (now edges) (now work) ⌝ }
-    ensures { λ r. ⌜ NodeDone (runOver (cache .ways) (cache .sets) limit (now (tracked .entry)) (now (accesses .entry)) (enterOf limit (workedIn j (aside .0) (tableOf (now (work .entry)))) (predecessors (edgesOf (now (edges .entry))) j))) j (r .0) (tableOf (now (work .entry))) (tableOf (now (work .exit))) ⌝ }
+    ensures { λ r. ⌜ NodeDone (runOver (cache .ways) (cache .sets) limit (now (tracked .entry)) last (now (accesses .entry)) (enterOf limit (workedIn j (aside .0) (tableOf (now (work .entry)))) (predecessors (edgesOf (now (edges .entry))) j))) j (r .0) (tableOf (now (work .entry))) (tableOf (now (work .exit))) ⌝ }
 {
     let entered = enter(work, j, edges, aside, limit);
-    let done = run(work, j * 64, entered, accesses, tracked, cache, limit);
+    let done = run(work, j * 64, entered, last, accesses, tracked, cache, limit);
     seal(work, j * 64, done.states);
     done.aside
 }
@@ -118,20 +122,24 @@ pub(crate) fn work_nodes(
     ensures { λ r. ⌜ workedIn (length (now (runs .entry))) (r .0) (tableOf (now (work .exit))) ≡ worked (inputOf cache limit (now (tracked .entry)) (now (runs .entry)) (now (accesses .entry)) (now (edges .entry))) (length (now (runs .entry))) ⌝ }
 {
     let mut aside = Units(0);
+    let mut lasts: [Last; 64] = [Last::Unknown; 64];
     let mut from: usize = 0;
     let mut j: usize = 0;
     while j < runs.len() {
         let to = from + runs[j] as usize;
+        let last = last_before(lasts, j, edges);
         aside = work_node(
             work,
             j,
             aside,
+            last,
             &accesses[from..to],
             edges,
             tracked,
             cache,
             limit,
         );
+        lasts[j] = last_after(last, &accesses[from..to]);
         from = to;
         j += 1;
     }

@@ -14,6 +14,7 @@ mod finish;
 mod fold;
 mod graph;
 mod join;
+mod last;
 mod memory;
 mod placing;
 mod run;

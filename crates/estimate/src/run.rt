@@ -6,6 +6,7 @@ use crate::join::pair_up;
 use crate::memory::copy;
 use crate::states::Tally;
 use rules::Cache;
+use rules::Last;
 use rules::Units;
 ghost use mathlib.Core.Path.{_≡_};
 ghost use mathlib.Core.Bool.{true};
@@ -38,41 +39,46 @@ pub(crate) fn settle(work: &mut [u64], at: usize, n: usize, aside: Units, limit:
     folded
 }
 
-// An access to `block`, of the table of `tally.states` states at place `at`.
+// An access to `block`, where `last` was accessed directly before, of the table of `tally.states` states at place `at`.
 pub(crate) fn advance(
     work: &mut [u64],
     at: usize,
     tally: Tally,
+    last: Last,
     block: u32,
     tracked: &[u32],
     cache: Cache,
     limit: usize,
 ) -> Tally
     requires { ⌜ Ready cache (now tracked) limit 4095 at (tally .states) (tally .aside .0) (now work) ⌝ }
-    ensures { λ r. ⌜ InPlace (advanceOf (cache .ways) limit (targetOf (cache .sets) (now (tracked .entry)) block) (workAt at (tally .states) (tally .aside .0) (now (work .entry)))) at (r .states) (r .aside .0) (tableOf (now (work .entry))) (tableOf (now (work .exit))) ⌝ }
+    ensures { λ r. ⌜ InPlace (advanceOf (cache .ways) limit (targetOf (cache .sets) (now (tracked .entry)) last block) (workAt at (tally .states) (tally .aside .0) (now (work .entry)))) at (r .states) (r .aside .0) (tableOf (now (work .entry))) (tableOf (now (work .exit))) ⌝ }
 {
-    let x = aim(tracked, cache.sets, block);
+    let x = aim(tracked, cache.sets, last, block);
     let gathered = gather(work, at, tally.states, x, cache.ways as u64, tally.aside);
     settle(work, at, gathered.states, gathered.aside, limit)
 }
 
-// The accesses of a run one after the other.
+// The accesses of a run one after the other, where `last` was accessed directly before them.
 pub(crate) fn run(
     work: &mut [u64],
     at: usize,
     tally: Tally,
+    last: Last,
     accesses: &[u32],
     tracked: &[u32],
     cache: Cache,
     limit: usize,
 ) -> Tally
     requires { ⌜ (length (now accesses) ≤ 4096) × Ready cache (now tracked) limit (4096 - length (now accesses)) at (tally .states) (tally .aside .0) (now work) ⌝ }
-    ensures { λ r. ⌜ InPlace (runOver (cache .ways) (cache .sets) limit (now (tracked .entry)) (now (accesses .entry)) (workAt at (tally .states) (tally .aside .0) (now (work .entry)))) at (r .states) (r .aside .0) (tableOf (now (work .entry))) (tableOf (now (work .exit))) ⌝ }
+    ensures { λ r. ⌜ InPlace (runOver (cache .ways) (cache .sets) limit (now (tracked .entry)) last (now (accesses .entry)) (workAt at (tally .states) (tally .aside .0) (now (work .entry)))) at (r .states) (r .aside .0) (tableOf (now (work .entry))) (tableOf (now (work .exit))) ⌝ }
 {
     let mut so_far = tally;
+    let mut before = last;
     let mut i: usize = 0;
     while i < accesses.len() {
-        so_far = advance(work, at, so_far, accesses[i], tracked, cache, limit);
+        let block = accesses[i];
+        so_far = advance(work, at, so_far, before, block, tracked, cache, limit);
+        before = Last::Block(block);
         i += 1;
     }
     so_far

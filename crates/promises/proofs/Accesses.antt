@@ -9,7 +9,7 @@ use native.Mathlib.Omega.{arith}
 use Rattle.basics.specs.Sums.{sumOver}
 use Rattle.rules.specs.declared.Target.{Target}
 use Rattle.rules.specs.declared.State.{State}
-use Rattle.rules.specs.Contents.{has, with, atRisk}
+use Rattle.rules.specs.Contents.{hits, with, atRisk}
 use Rattle.rules.specs.Table.{unitsOf, total}
 use Rattle.rules.specs.Units.{whole}
 use Rattle.rules.specs.Step.{leftOver, access, accessAside}
@@ -31,7 +31,7 @@ module _ (N Z : ℕ) (ts : List ℕ) (M : ℕ) (x : Target) (aim : Aimed Z ts x)
   access-low rises = omega (arith, equation, all T shaped)
     where
       one : (s : State) → Shaped N Z ts M s → leftOver N x s * aheadOf N x f s ≤ N * (leftOver N x s * alone N x f s)
-      one s l = go (has (s .mask) (x .place))
+      one s l = go (hits x (s .mask))
         where
           S : ℕ
           S = overWays N (s .mask) (atRisk x (s .mask)) (λ D. f (with D (x .place)) (suc (s .misses)))

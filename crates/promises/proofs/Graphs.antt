@@ -1,8 +1,9 @@
 -- A graph, along a path: each node's table is worth no less than its predecessors' are along its run, so from node to node nothing is
--- lost, whichever edges the path takes. A straight run is the graph of one node.
+-- lost, whichever edges the path takes; and what is known of the last block is so on each of them. A straight run is the graph of one node.
 use mathlib.Core.Path.{_≡_, refl, sym, ap, _∙_, subst}
 use mathlib.Core.Bool.{true, true≢false}
-use mathlib.Core.List.{List, [], _∷_, _++_, map-append}
+use mathlib.Core.Logic.{inr}
+use mathlib.Core.List.{List, [], _∷_, _++_}
 use Prim.Native.Nat.{ℕ, _-_, _*_, _^_, _≤_, _<_}
 use native.Mathlib.Nat.{le-refl, le-trans, le-of-eq, mul-le-mul-left}
 use native.Mathlib.Omega.{arith}
@@ -15,23 +16,25 @@ use Rattle.basics.specs.Sums.{sumOver}
 use Rattle.basics.proofs.Bools.{or-left}
 use Rattle.rules.specs.declared.State.{State}
 use Rattle.rules.specs.declared.Target.{Target}
+use Rattle.rules.specs.declared.Last.{Last}
+use Rattle.rules.specs.declared.Last.the-variants.{Block as block, Unknown as unknown}
 use Rattle.rules.specs.Units.{whole}
-use Rattle.rules.specs.Contents.{among, targetOf}
+use Rattle.rules.specs.Contents.{among, lastAfter}
 use Rattle.rules.specs.Input.{Input, nodes, offset, runOf, edgesOf, predecessors}
-use Rattle.rules.specs.Table.{begin, total, Work}
+use Rattle.rules.specs.Table.{unitsOf, begin, total, Work}
 use Rattle.rules.specs.Run.{run}
 use Rattle.rules.specs.Fold.{folded}
 use Rattle.rules.specs.Join.{join}
-use Rattle.rules.specs.Graph.{Worked, tableAt, joinAll, enter, node, worked, finished}
-use Rattle.rules.specs.Shape.{Table}
+use Rattle.rules.specs.Graph.{Worked, tableAt, joinAll, enter, lastBefore, nodeLast, lastsTo, node, worked, finished}
+use Rattle.rules.specs.Shape.{Every, Room, Shaped, Table}
 use Rattle.rules.proofs.Table.{worth}
 use Rattle.rules.proofs.Join.{shaped-join, join-total}
 use Rattle.rules.proofs.Refusals.{Checked, predecessor-lower}
 use Rattle.rules.proofs.Run.{table-join}
-use Rattle.rules.proofs.Graph.{nodeTable, table-stays, finished-table, first-and-others, first-or-other, table-enter, node-table}
+use Rattle.rules.proofs.Graph.{nodeTable, lastOf, table-stays, last-stays, Vaguer, vaguer-trans, last-before, finished-table, first-and-others, first-or-other, table-enter, node-table}
 use Rattle.promises.specs.Paths.{isPath, accessesOf}
 use Rattle.promises.proofs.Paths.{along-path}
-use Rattle.promises.proofs.Value.{value, Rises, value-rises, value-append, targetsOf, all-aimed}
+use Rattle.promises.proofs.Value.{value, Rises, value-rises, value-append, value-vaguer, targetsOf, all-aimed, targets-append}
 use Rattle.promises.proofs.Folds.{kept-folded}
 use Rattle.promises.proofs.Joins.{join-above}
 use Rattle.promises.proofs.Runs.{run-low}
@@ -85,21 +88,47 @@ module _ (N Z : ℕ) (ts : List ℕ) (K M : ℕ) (some : 0 < N) (room : 0 < K) w
 
 -- ---- from node to node
 
+-- a table is worth no less to a weight that is no less
+worth-more : (N Z : ℕ) (ts : List ℕ) (M : ℕ) (f g : ℕ → ℕ → ℕ) → ((C m : ℕ) → Room N Z ts C → f C m ≤ g C m)
+    → (T : List State) → Every (Shaped N Z ts M) T → worth f T ≤ worth g T
+worth-more N Z ts M f g h [] s = le-refl 0
+worth-more N Z ts M f g h (t ∷ T) s =
+    omega (arith, mul-le-mul-left (unitsOf t) (h (t .mask) (t .misses) (s .0 .0 .small)), worth-more N Z ts M f g h T (s .1))
+
+last-on : (k l : Last) (bs : List ℕ) → Vaguer k l → Vaguer (lastAfter k bs) (lastAfter l bs)
+unfolding lastAfter
+last-on k l [] v = v
+last-on k l (b ∷ bs) v = inr refl
+
+last-append : (l : Last) (p q : List ℕ) → lastAfter l (p ++ q) ≡ lastAfter (lastAfter l p) q
+unfolding lastAfter
+last-append l [] q = refl
+last-append l (b ∷ p) q = last-append (block b) p q
+
 module _ (i : Input) (ok : Checked i) where
   abbrev N : ℕ
   N = i .ways
 
-  -- what the accesses to bs are after
-  abbrev targets : List ℕ → List Target
-  targets bs = targetsOf (i .sets) (i .tracked) bs
+  -- what the accesses to bs are after, where l was accessed directly before
+  abbrev targets : Last → List ℕ → List Target
+  targets l bs = targetsOf (i .sets) (i .tracked) l bs
 
-  -- the accesses bs lead from T to U: nothing is lost on the way
-  abbrev Leads : List State → List ℕ → List State → Type 0
-  Leads T bs U = (f : ℕ → ℕ → ℕ) → Rises N (i .sets) (i .tracked) f → worth (value f N (targets bs)) T ≤ N ^ length bs * worth f U
+  abbrev Rising : (ℕ → ℕ → ℕ) → Type 0
+  Rising f = Rises N (i .sets) (i .tracked) f
 
-  -- what node j starts from
+  rising-on : (f : ℕ → ℕ → ℕ) → Rising f → (l : Last) (bs : List ℕ) → Rising (value f N (targets l bs))
+  rising-on f rises l bs = value-rises N (i .sets) (i .tracked) f rises (targets l bs) (all-aimed (i .sets) (i .tracked) l bs)
+
+  -- after l the accesses bs lead from T to U: nothing is lost on the way
+  abbrev Leads : Last → List State → List ℕ → List State → Type 0
+  Leads l T bs U = (f : ℕ → ℕ → ℕ) → Rising f → worth (value f N (targets l bs)) T ≤ N ^ length bs * worth f U
+
+  -- what node j starts from, and the block accessed directly before it
   abbrev entered : ℕ → Work
   entered j = enter (i .limit) (worked i j) (predecessors (edgesOf (i .edges)) j)
+
+  abbrev known : ℕ → Last
+  known j = lastBefore (lastsTo i j) (predecessors (edgesOf (i .edges)) j)
 
   module _ (j : ℕ) (here : j < nodes i) where
     before : (a : ℕ) → among (predecessors (edgesOf (i .edges)) j) a ≡ true
@@ -108,54 +137,95 @@ module _ (i : Input) (ok : Checked i) where
         let a<j = predecessor-lower i ok a j e .0 in
         rw (table-stays i j a a<j) (node-table i ok a (omega (arith, a<j)))
 
-    node-run : Leads (entered j .table) (runOf i j) (nodeTable i j)
+    node-run : Leads (known j) (entered j .table) (runOf i j) (nodeTable i j)
     unfolding node
     node-run f rises =
-        run-low N (i .sets) (i .limit) (i .tracked) (ok .some-ways) (ok .some-states) f rises (length (i .accesses)) (runOf i j) (entered j)
+        run-low N (i .sets) (i .limit) (i .tracked) (ok .some-ways) (ok .some-states) f rises (length (i .accesses)) (known j) (runOf i j) (entered j)
         (table-enter N _ _ (i .limit) (ok .some-ways) (ok .some-states) (length (i .accesses)) (worked i j) _ before)
 
-    -- from each predecessor
-    pub node-leads : (a : ℕ) → among (predecessors (edgesOf (i .edges)) j) a ≡ true → Leads (nodeTable i a) (runOf i j) (nodeTable i j)
-    node-leads a e f rises =
-        le-trans
-        (rw (table-stays i j a (predecessor-lower i ok a j e .0)) at
-        (enter-above N (i .sets) (i .tracked) (i .limit) (length (i .accesses)) (ok .some-ways) (ok .some-states) (worked i j)
-        (predecessors (edgesOf (i .edges)) j) before a e
-        (value f N (targets (runOf i j))) (value-rises N (i .sets) (i .tracked) f rises (targets (runOf i j)) (all-aimed (i .sets) (i .tracked) (runOf i j)))))
-        (node-run f rises)
+    module _ (a : ℕ) (e : among (predecessors (edgesOf (i .edges)) j) a ≡ true) where
+      -- from each predecessor
+      pub node-leads : Leads (known j) (nodeTable i a) (runOf i j) (nodeTable i j)
+      node-leads f rises =
+          le-trans
+          (rw (table-stays i j a (predecessor-lower i ok a j e .0)) at
+          (enter-above N (i .sets) (i .tracked) (i .limit) (length (i .accesses)) (ok .some-ways) (ok .some-states) (worked i j)
+          (predecessors (edgesOf (i .edges)) j) before a e
+          (value f N (targets (known j) (runOf i j))) (rising-on f rises (known j) (runOf i j))))
+          (node-run f rises)
 
-  -- node 0 has no predecessor, and starts from the start
-  first-start : entered 0 ≡ record { table = begin; aside = 0 }
-  unfolding worked enter
-  first-start = ap (enter (i .limit) (worked i 0)) (none (predecessors (edgesOf (i .edges)) 0) (λ a e. predecessor-lower i ok a 0 e .0))
+      -- which knows what is known before the node
+      pub node-known : Vaguer (known j) (lastOf i a)
+      node-known = rw (last-stays i j a (predecessor-lower i ok a j e .0)) at (last-before (lastsTo i j) (predecessors (edgesOf (i .edges)) j) a e)
+
+  -- node 0 has no predecessor: it starts from the start, and no last block is known
+  no-predecessors : predecessors (edgesOf (i .edges)) 0 ≡ []
+  no-predecessors = none (predecessors (edgesOf (i .edges)) 0) (λ a e. predecessor-lower i ok a 0 e .0)
     where
       none : (is : List ℕ) → ((a : ℕ) → among is a ≡ true → a < 0) → is ≡ []
       none [] h = refl
       none (a ∷ is) h = let z : a < 0 = h a (or-left (eqb a a) _ (eq-eqb a a refl)) in absurd (omega arith)
 
+  first-start : entered 0 ≡ record { table = begin; aside = 0 }
+  unfolding worked enter
+  first-start = ap (enter (i .limit) (worked i 0)) no-predecessors
+
+  first-known : known 0 ≡ unknown
+  unfolding lastBefore
+  first-known = ap (lastBefore (lastsTo i 0)) no-predecessors
+
   -- ---- along a path
 
-  -- the accesses p lead from the start to T
-  abbrev pub Covers : List ℕ → List State → Type 0
-  Covers p T = (f : ℕ → ℕ → ℕ) → Rises N (i .sets) (i .tracked) f → whole * value f N (targets p) 0 0 ≤ N ^ length p * worth f T
+  -- the accesses p lead from the start to T, and k is known of the last of them
+  pub record Covers (p : List ℕ) (T : List State) (k : Last) : Type 0 where
+    pub above : (f : ℕ → ℕ → ℕ) → Rising f → whole * value f N (targets unknown p) 0 0 ≤ N ^ length p * worth f T
+    pub last : Vaguer k (lastAfter unknown p)
 
-  covers-on : (p bs : List ℕ) (T U : List State) → Covers p T → Leads T bs U → Covers (p ++ bs) U
-  covers-on p bs T U c l f rises =
-      rw (map-append (targetOf (i .sets) (i .tracked)) p bs, value-append f N (targets p) (targets bs), length-append p bs, pow-add N (length p) (length bs))
-      (le-trans (c (value f N (targets bs)) (value-rises N (i .sets) (i .tracked) f rises (targets bs) (all-aimed (i .sets) (i .tracked) bs))) (omega (arith, mul-le-mul-left (N ^ length p) (l f rises))))
+  -- and on to the next node
+  covers-on : (p : List ℕ) (a b : ℕ) → among (predecessors (edgesOf (i .edges)) b) a ≡ true → Covers p (nodeTable i a) (lastOf i a)
+      → Covers (p ++ runOf i b) (nodeTable i b) (lastOf i b)
+  unfolding nodeLast
+  covers-on p a b e c = record { above = on; last = rw (last-append unknown p bs) (last-on (known b) (lastAfter unknown p) bs vague) }
+    where
+      bs : List ℕ
+      bs = runOf i b
+
+      here : b < nodes i
+      here = predecessor-lower i ok a b e .1
+
+      vague : Vaguer (known b) (lastAfter unknown p)
+      vague = vaguer-trans _ _ _ (node-known b here a e) (c .last)
+
+      -- to the accesses ahead it is worth no less where less is known of the last block
+      less-known : (f : ℕ → ℕ → ℕ) → Rising f
+          → worth (value f N (targets (lastAfter unknown p) bs)) (nodeTable i a) ≤ worth (value f N (targets (known b) bs)) (nodeTable i a)
+      less-known f rises =
+          worth-more N (i .sets) (i .tracked) (length (i .accesses)) _ _
+          (λ C m room. value-vaguer N (i .sets) (i .tracked) f rises (known b) (lastAfter unknown p) vague bs C m room)
+          (nodeTable i a) (node-table i ok a (omega (arith, here, predecessor-lower i ok a b e .0)) .shaped)
+
+      on : (f : ℕ → ℕ → ℕ) → Rising f → whole * value f N (targets unknown (p ++ bs)) 0 0 ≤ N ^ length (p ++ bs) * worth f (nodeTable i b)
+      on f rises =
+          rw (targets-append (i .sets) (i .tracked) unknown p bs, value-append f N (targets unknown p) (targets (lastAfter unknown p) bs), length-append p bs, pow-add N (length p) (length bs))
+          (le-trans (c .above (value f N (targets (lastAfter unknown p) bs)) (rising-on f rises (lastAfter unknown p) bs))
+          (omega (arith, mul-le-mul-left (N ^ length p) (le-trans (less-known f rises) (node-leads b here a e f rises)))))
 
   -- every path from first node to last leads from the start to the finished table
-  pub path-covers : (path : List ℕ) → isPath i path ≡ true → Covers (accessesOf i path) (finished i .table)
+  pub path-covers : (path : List ℕ) → isPath i path ≡ true → (f : ℕ → ℕ → ℕ) → Rising f
+      → whole * value f N (targets unknown (accessesOf i path)) 0 0 ≤ N ^ length (accessesOf i path) * worth f (finished i .table)
+  unfolding nodeLast
   path-covers path h =
-      rw (finished-table i (ok .some-nodes))
-      (along-path i (λ p a. Covers p (nodeTable i a))
-      (λ p a b e c. covers-on p (runOf i b) (nodeTable i a) (nodeTable i b) c (node-leads b (predecessor-lower i ok a b e .1) a e)) begun path h)
+      rw (finished-table i (ok .some-nodes)) (along-path i (λ p a. Covers p (nodeTable i a) (lastOf i a)) covers-on begun path h .above)
     where
-      begun : Covers (runOf i 0) (nodeTable i 0)
-      begun f r =
-          le-trans (omega arith)
-          (subst (λ (w : Work). worth (value f N (targets (runOf i 0))) (w .table) ≤ N ^ length (runOf i 0) * worth f (nodeTable i 0)) first-start
-          (node-run 0 (ok .some-nodes) f r))
+      begun : Covers (runOf i 0) (nodeTable i 0) (lastOf i 0)
+      begun =
+          record {
+            above = λ f r. le-trans (omega arith)
+                (subst (λ (w : Work). worth (value f N (targets unknown (runOf i 0))) (w .table) ≤ N ^ length (runOf i 0) * worth f (nodeTable i 0)) first-start
+                (subst (λ (l : Last). worth (value f N (targets l (runOf i 0))) (entered 0 .table) ≤ N ^ length (runOf i 0) * worth f (nodeTable i 0)) first-known
+                (node-run 0 (ok .some-nodes) f r)));
+            last = inr (ap (λ (l : Last). lastAfter l (runOf i 0)) first-known);
+          }
 
   -- ---- one node
 
@@ -170,9 +240,10 @@ module _ (i : Input) (ok : Checked i) where
       go (n ∷ m ∷ ns) bs l s = absurd (omega arith)
 
   -- so the finished table is what the accesses make of the start
-  pub straight : nodes i ≡ 1 → finished i ≡ run N (i .sets) (i .limit) (i .tracked) (i .accesses) (record { table = begin; aside = 0 })
+  pub straight : nodes i ≡ 1 → finished i ≡ run N (i .sets) (i .limit) (i .tracked) unknown (i .accesses) (record { table = begin; aside = 0 })
   unfolding finished worked node
   straight e =
       ap (λ (n : ℕ). let d = worked i n in record { table = tableAt d (n - 1); aside = d .aside }) e
-      ∙ ap (run N (i .sets) (i .limit) (i .tracked) (runOf i 0)) first-start
-      ∙ ap (λ (bs : List ℕ). run N (i .sets) (i .limit) (i .tracked) bs (record { table = begin; aside = 0 })) (whole-run e)
+      ∙ ap (λ (l : Last). run N (i .sets) (i .limit) (i .tracked) l (runOf i 0) (entered 0)) first-known
+      ∙ ap (run N (i .sets) (i .limit) (i .tracked) unknown (runOf i 0)) first-start
+      ∙ ap (λ (bs : List ℕ). run N (i .sets) (i .limit) (i .tracked) unknown bs (record { table = begin; aside = 0 })) (whole-run e)

@@ -6,8 +6,10 @@ use mathlib.Core.List.{List, [], _∷_}
 use Prim.Native.Nat.{ℕ, suc, _+_, _*_, _^_, _≤_, _<_}
 use native.Mathlib.Nat.{le-trans, le-of-eq, mul-le-mul-left, pow-zero, pow-succ'}
 use native.Mathlib.Omega.{arith}
-use lib.ListN.{length, length-map}
+use lib.ListN.{length}
 use Rattle.rules.specs.declared.Target.{Target}
+use Rattle.rules.specs.declared.Last.{Last}
+use Rattle.rules.specs.declared.Last.the-variants.{Block as block}
 use Rattle.rules.specs.Units.{whole, more}
 use Rattle.rules.specs.Contents.{with, targetOf}
 use Rattle.rules.specs.Table.{total, Work}
@@ -19,7 +21,7 @@ use Rattle.rules.proofs.Sets.{aimed, room-alone}
 use Rattle.rules.proofs.Table.{worth}
 use Rattle.rules.proofs.Step.{ahead, access-shaped, access-total}
 use Rattle.rules.proofs.Run.{table-fits, table-advance}
-use Rattle.promises.proofs.Value.{value, Rises, value-rises, value-most, targetsOf, all-aimed}
+use Rattle.promises.proofs.Value.{value, Rises, value-rises, value-most, targetsOf, all-aimed, length-targets}
 use Rattle.promises.proofs.Accesses.{access-low, access-high, access-even}
 use Rattle.promises.proofs.Folds.{aside-none, Kept, kept-folded}
 
@@ -82,65 +84,73 @@ module _ (N Z : ℕ) (ts : List ℕ) (K M : ℕ) (x : Target) (some : 0 < N) (ai
 -- ---- a run
 
 module _ (N Z K : ℕ) (ts : List ℕ) (some : 0 < N) (room : 0 < K) where
-  next : (M : ℕ) (b : ℕ) (w : Work) → Table N Z ts K M (w .table) → Table N Z ts K (suc M) (advance N K (targetOf Z ts b) w .table)
-  next M b w t = table-advance N Z ts K some room M (targetOf Z ts b) w (aimed Z ts b) t
+  -- what the accesses to bs are after, and the run over them, where l was accessed directly before
+  abbrev to : Last → List ℕ → List Target
+  to l bs = targetsOf Z ts l bs
 
-  pub run-low : (F : ℕ → ℕ → ℕ) → Rises N Z ts F → (M : ℕ) (bs : List ℕ) (w : Work) → Table N Z ts K M (w .table)
-      → worth (value F N (targetsOf Z ts bs)) (w .table) ≤ N ^ length bs * worth F (run N Z K ts bs w .table)
+  abbrev ran : Last → List ℕ → Work → Work
+  ran l bs w = run N Z K ts l bs w
+
+  next : (M : ℕ) (l : Last) (b : ℕ) (w : Work) → Table N Z ts K M (w .table) → Table N Z ts K (suc M) (advance N K (targetOf Z ts l b) w .table)
+  next M l b w t = table-advance N Z ts K some room M (targetOf Z ts l b) w (aimed Z ts l b) t
+
+  pub run-low : (F : ℕ → ℕ → ℕ) → Rises N Z ts F → (M : ℕ) (l : Last) (bs : List ℕ) (w : Work) → Table N Z ts K M (w .table)
+      → worth (value F N (to l bs)) (w .table) ≤ N ^ length bs * worth F (ran l bs w .table)
   unfolding run value
-  run-low F rises M [] w t = rw (pow-zero N) (omega arith)
-  run-low F rises M (b ∷ bs) w t =
+  run-low F rises M l [] w t = rw (pow-zero N) (omega arith)
+  run-low F rises M l (b ∷ bs) w t =
       rw (pow-succ' N (length bs))
       (omega (
         arith,
-        advance-low N Z ts K M (targetOf Z ts b) some (aimed Z ts b) w t (value F N (targetsOf Z ts bs)) (value-rises N Z ts F rises (targetsOf Z ts bs) (all-aimed Z ts bs)),
-        mul-le-mul-left N (run-low F rises (suc M) bs (advance N K (targetOf Z ts b) w) (next M b w t)),
+        advance-low N Z ts K M (targetOf Z ts l b) some (aimed Z ts l b) w t (value F N (to (block b) bs))
+            (value-rises N Z ts F rises (to (block b) bs) (all-aimed Z ts (block b) bs)),
+        mul-le-mul-left N (run-low F rises (suc M) (block b) bs (advance N K (targetOf Z ts l b) w) (next M l b w t)),
       ))
 
-  run-stopped : (M : ℕ) (bs : List ℕ) (w : Work) → Table N Z ts K M (w .table) → w .aside ≡ whole → run N Z K ts bs w .aside ≡ whole
+  run-stopped : (M : ℕ) (l : Last) (bs : List ℕ) (w : Work) → Table N Z ts K M (w .table) → w .aside ≡ whole → ran l bs w .aside ≡ whole
   unfolding run
-  run-stopped M [] w t e = e
-  run-stopped M (b ∷ bs) w t e =
-      run-stopped (suc M) bs (advance N K (targetOf Z ts b) w) (next M b w t)
-      (advance-stopped N Z ts K M (targetOf Z ts b) some (aimed Z ts b) w t e)
+  run-stopped M l [] w t e = e
+  run-stopped M l (b ∷ bs) w t e =
+      run-stopped (suc M) (block b) bs (advance N K (targetOf Z ts l b) w) (next M l b w t)
+      (advance-stopped N Z ts K M (targetOf Z ts l b) some (aimed Z ts l b) w t e)
 
-  pub run-high : (F : ℕ → ℕ → ℕ) → ((C m : ℕ) → F C m ≤ 1) → (M : ℕ) (bs : List ℕ) (w : Work) → Table N Z ts K M (w .table)
-      → (run N Z K ts bs w .aside ≡ whole)
-      ⊎ (N ^ length bs * worth F (run N Z K ts bs w .table) + w .aside * N ^ length bs
-      ≤ worth (value F N (targetsOf Z ts bs)) (w .table) + run N Z K ts bs w .aside * N ^ length bs)
+  pub run-high : (F : ℕ → ℕ → ℕ) → ((C m : ℕ) → F C m ≤ 1) → (M : ℕ) (l : Last) (bs : List ℕ) (w : Work) → Table N Z ts K M (w .table)
+      → (ran l bs w .aside ≡ whole)
+      ⊎ (N ^ length bs * worth F (ran l bs w .table) + w .aside * N ^ length bs
+      ≤ worth (value F N (to l bs)) (w .table) + ran l bs w .aside * N ^ length bs)
   unfolding run value
-  run-high F most M [] w t = inr (rw (pow-zero N) (omega arith))
-  run-high F most M (b ∷ bs) w t =
-      go (advance-high N Z ts K M (targetOf Z ts b) some (aimed Z ts b) w t (value F N (targetsOf Z ts bs)) (N ^ length bs) top)
-      (run-high F most (suc M) bs v (next M b w t))
+  run-high F most M l [] w t = inr (rw (pow-zero N) (omega arith))
+  run-high F most M l (b ∷ bs) w t =
+      go (advance-high N Z ts K M (targetOf Z ts l b) some (aimed Z ts l b) w t (value F N (to (block b) bs)) (N ^ length bs) top)
+      (run-high F most (suc M) (block b) bs v (next M l b w t))
     where
       v : Work
-      v = advance N K (targetOf Z ts b) w
+      v = advance N K (targetOf Z ts l b) w
 
-      top : (C m : ℕ) → Room N Z ts C → value F N (targetsOf Z ts bs) C m ≤ N ^ length bs
-      top C m l = rw (length-map bs (targetOf Z ts)) at (value-most N Z ts F most (targetsOf Z ts bs) (all-aimed Z ts bs) C m l)
+      top : (C m : ℕ) → Room N Z ts C → value F N (to (block b) bs) C m ≤ N ^ length bs
+      top C m h = rw (length-targets Z ts (block b) bs) at (value-most N Z ts F most (to (block b) bs) (all-aimed Z ts (block b) bs) C m h)
 
       z : Work
-      z = run N Z K ts bs v
+      z = ran (block b) bs v
 
       go : (v .aside ≡ whole)
-          ⊎ (N * worth (value F N (targetsOf Z ts bs)) (v .table) + N * (w .aside * N ^ length bs)
-          ≤ worth (value F N (targetsOf Z ts (b ∷ bs))) (w .table) + N * (v .aside * N ^ length bs))
+          ⊎ (N * worth (value F N (to (block b) bs)) (v .table) + N * (w .aside * N ^ length bs)
+          ≤ worth (value F N (to l (b ∷ bs))) (w .table) + N * (v .aside * N ^ length bs))
           → (z .aside ≡ whole)
-          ⊎ (N ^ length bs * worth F (z .table) + v .aside * N ^ length bs ≤ worth (value F N (targetsOf Z ts bs)) (v .table) + z .aside * N ^ length bs)
+          ⊎ (N ^ length bs * worth F (z .table) + v .aside * N ^ length bs ≤ worth (value F N (to (block b) bs)) (v .table) + z .aside * N ^ length bs)
           → (z .aside ≡ whole)
           ⊎ (N ^ suc (length bs) * worth F (z .table) + w .aside * N ^ suc (length bs)
-          ≤ worth (value F N (targetsOf Z ts (b ∷ bs))) (w .table) + z .aside * N ^ suc (length bs))
-      go (inl e) h = inl (run-stopped (suc M) bs v (next M b w t) e)
+          ≤ worth (value F N (to l (b ∷ bs))) (w .table) + z .aside * N ^ suc (length bs))
+      go (inl e) h = inl (run-stopped (suc M) (block b) bs v (next M l b w t) e)
       go (inr g) (inl h) = inl h
       go (inr g) (inr h) = inr (rw (pow-succ' N (length bs)) (omega (arith, g, mul-le-mul-left N h)))
 
-  pub run-even : (F : ℕ → ℕ → ℕ) (M : ℕ) (bs : List ℕ) (w : Work) → Table N Z ts K M (w .table) → run N Z K ts bs w .aside ≡ 0
-      → (w .aside ≡ 0) × (N ^ length bs * worth F (run N Z K ts bs w .table) ≡ worth (value F N (targetsOf Z ts bs)) (w .table))
+  pub run-even : (F : ℕ → ℕ → ℕ) (M : ℕ) (l : Last) (bs : List ℕ) (w : Work) → Table N Z ts K M (w .table) → ran l bs w .aside ≡ 0
+      → (w .aside ≡ 0) × (N ^ length bs * worth F (ran l bs w .table) ≡ worth (value F N (to l bs)) (w .table))
   unfolding run value
-  run-even F M [] w t e = (e, rw (pow-zero N) (omega arith))
-  run-even F M (b ∷ bs) w t e =
-      let v = advance N K (targetOf Z ts b) w in
-      let (p, rest) = run-even F (suc M) bs v (next M b w t) e in
-      let (q, here) = advance-even N Z ts K M (targetOf Z ts b) some (aimed Z ts b) w t p in
-      (q, rw (pow-succ' N (length bs)) (omega (arith, here (value F N (targetsOf Z ts bs)), ap (N *_) rest)))
+  run-even F M l [] w t e = (e, rw (pow-zero N) (omega arith))
+  run-even F M l (b ∷ bs) w t e =
+      let v = advance N K (targetOf Z ts l b) w in
+      let (p, rest) = run-even F (suc M) (block b) bs v (next M l b w t) e in
+      let (q, here) = advance-even N Z ts K M (targetOf Z ts l b) some (aimed Z ts l b) w t p in
+      (q, rw (pow-succ' N (length bs)) (omega (arith, here (value F N (to (block b) bs)), ap (N *_) rest)))

@@ -1,8 +1,8 @@
 -- The machine from the start, along the accesses of an accepted input, and the finished table of a straight run.
-use mathlib.Core.Path.{_≡_, ap, _∙_}
-use mathlib.Core.Bool.{true}
+use mathlib.Core.Path.{_≡_, sym, ap, _∙_}
+use mathlib.Core.Bool.{true, true≢false}
 use mathlib.Core.Logic.{_⊎_, inl, inr}
-use mathlib.Core.List.{List, map}
+use mathlib.Core.List.{List}
 use Prim.Native.Nat.{ℕ, _+_, _*_, _^_, _≤_, zero-le}
 use native.Mathlib.Nat.{le-trans, le-of-eq}
 use native.Mathlib.Omega.{arith}
@@ -11,8 +11,9 @@ use Rattle.machine.specs.Cache.{start}
 use Rattle.machine.proofs.Draws.{total}
 use Rattle.machine.proofs.Ways.{built-start}
 use Rattle.rules.specs.Answers.{outcomeSays}
+use Rattle.rules.specs.declared.Last.the-variants.{Unknown as unknown}
 use Rattle.rules.specs.Units.{whole}
-use Rattle.rules.specs.Contents.{places, targetOf}
+use Rattle.rules.specs.Contents.{places}
 use Rattle.rules.specs.Input.{Input, nodes}
 use Rattle.rules.specs.Table.{begin, Work}
 use Rattle.rules.specs.Run.{run}
@@ -38,7 +39,7 @@ module _ (i : Input) (ok : Checked i) where
   N = i .ways
 
   abbrev ahead : (ℕ → ℕ → ℕ) → List ℕ → ℕ
-  ahead F p = value F N (targetsOf (i .sets) (i .tracked) p) 0 0
+  ahead F p = value F N (targetsOf (i .sets) (i .tracked) unknown p) 0 0
 
   few : length (i .tracked) ≤ places
   few = rw sixteen-places (ok .few-tracked)
@@ -47,14 +48,14 @@ module _ (i : Input) (ok : Checked i) where
 
   pub machine-start : (F : ℕ → ℕ → ℕ) → Rises N (i .sets) (i .tracked) F → (p : List ℕ) → total (seen (i .tracked) F) N (start (i .sets) N) p ≤ ahead F p
   machine-start F rises p =
-      machine-below (i .tracked) (once-at (i .tracked) (ok .distinct)) few F (i .sets) N (ok .some-sets) rises p (start (i .sets) N) 0 0 (built-start (i .sets) N)
-      (sub-zero _) zero-le
+      machine-below (i .tracked) (once-at (i .tracked) (ok .distinct)) few F (i .sets) N (ok .some-sets) rises p (start (i .sets) N) 0 0 unknown (built-start (i .sets) N)
+      (sub-zero _) (λ b e. absurd (true≢false (sym e))) zero-le
 
   pub machine-even : allTracked (i .tracked) (i .accesses) ≡ true → (F : ℕ → ℕ → ℕ)
       → total (seen (i .tracked) F) N (start (i .sets) N) (i .accesses) ≡ ahead F (i .accesses)
   machine-even all F =
-      machine-equal (i .tracked) (once-at (i .tracked) (ok .distinct)) few (i .sets) N (ok .some-sets) F (i .accesses) (start (i .sets) N) (built-start (i .sets) N) all
-      ∙ ap (λ (C : ℕ). value F N (map (targetOf (i .sets) (i .tracked)) (i .accesses)) C 0) (contents-start (i .tracked) (i .sets) N)
+      machine-equal (i .tracked) (once-at (i .tracked) (ok .distinct)) few (i .sets) N (ok .some-sets) F (i .accesses) (start (i .sets) N) unknown (built-start (i .sets) N) all
+      ∙ ap (λ (C : ℕ). value F N (targetsOf (i .sets) (i .tracked) unknown (i .accesses)) C 0) (contents-start (i .tracked) (i .sets) N)
 
   -- ---- a straight run
 
@@ -63,14 +64,14 @@ module _ (i : Input) (ok : Checked i) where
     pub straight-high : (F : ℕ → ℕ → ℕ) → ((C m : ℕ) → F C m ≤ 1)
         → (finished i .aside ≡ whole)
         ⊎ (worth F (finished i .table) * N ^ length (i .accesses) ≤ whole * ahead F (i .accesses) + finished i .aside * N ^ length (i .accesses))
-    straight-high F most = rw (straight i ok one) (go (run-high N (i .sets) (i .limit) (i .tracked) (ok .some-ways) (ok .some-states) F most 0 (i .accesses) begun
+    straight-high F most = rw (straight i ok one) (go (run-high N (i .sets) (i .limit) (i .tracked) (ok .some-ways) (ok .some-states) F most 0 unknown (i .accesses) begun
         (table-begin N (i .sets) (i .tracked) (i .limit) (ok .some-ways) (ok .some-states))))
       where
         begun : Work
         begun = record { table = begin; aside = 0 }
 
         v : Work
-        v = run N (i .sets) (i .limit) (i .tracked) (i .accesses) begun
+        v = run N (i .sets) (i .limit) (i .tracked) unknown (i .accesses) begun
 
         go : (v .aside ≡ whole)
             ⊎ (N ^ length (i .accesses) * worth F (v .table) + 0 * N ^ length (i .accesses)
@@ -84,7 +85,7 @@ module _ (i : Input) (ok : Checked i) where
         → worth F (finished i .table) * N ^ length (i .accesses) ≡ whole * ahead F (i .accesses)
     straight-even F e = rw (straight i ok one) (omega (
       arith,
-      run-even N (i .sets) (i .limit) (i .tracked) (ok .some-ways) (ok .some-states) F 0 (i .accesses) (record { table = begin; aside = 0 })
+      run-even N (i .sets) (i .limit) (i .tracked) (ok .some-ways) (ok .some-states) F 0 unknown (i .accesses) (record { table = begin; aside = 0 })
           (table-begin N (i .sets) (i .tracked) (i .limit) (ok .some-ways) (ok .some-states)) (rw (straight i ok one) at e) .1,
     ))
 

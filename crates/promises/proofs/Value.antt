@@ -1,31 +1,47 @@
 -- The value of contents C with m misses along the accesses ahead: what the rules say that all draws to come add up to, for a weight F
 -- of what they end in. It rises as blocks are taken away and misses added, and a remainder that goes to the accessed block alone, and
--- a fold, are safe for that reason.
-use mathlib.Core.Path.{_≡_, refl, sym, ap, _∙_}
+-- a fold, are safe for that reason. Nor does it fall where less is known of the block accessed directly before.
+use mathlib.Core.Path.{_≡_, refl, sym, ap, _∙_, subst}
+use mathlib.Core.Logic.{inl, inr}
 use mathlib.Core.Bool.{Bool, true, false, cond, true≢false}
-use mathlib.Core.List.{List, [], _∷_, _++_, map}
-use Prim.Native.Nat.{ℕ, zero, suc, _+_, _-_, _*_, _^_, _≤_, _<_, suc-le-suc}
+use mathlib.Core.List.{List, [], _∷_, _++_}
+use Prim.Native.Nat.{ℕ, zero, suc, _+_, _-_, _*_, _%_, _^_, _≤_, _<_, suc-le-suc}
 use native.Mathlib.Nat.{le-refl, le-trans, le-step, mul-le-mul-left, pow-zero, pow-succ'}
 use native.Mathlib.Omega.{arith}
 use lib.ListN.{length}
 use Rattle.basics.proofs.Sums.{sumOn, sum-le, sum-add, sum-each}
 use Rattle.rules.specs.declared.Place.{Place}
 use Rattle.rules.specs.declared.Place.the-variants.{At as at, Untracked as untracked}
+use Rattle.rules.specs.declared.Last.{Last}
+use Rattle.rules.specs.declared.Last.the-variants.{Block as block, Unknown as unknown}
 use Rattle.rules.specs.declared.Target.{Target}
-use Rattle.rules.specs.Contents.{places, bit, has, with, without, held, size, targetOf, atRisk}
+use Rattle.rules.specs.Contents.{places, find, isLast, lastAfter, bit, has, hits, with, without, held, size, ofSet, targetOf, atRisk}
 use Rattle.rules.specs.Shape.{Every, Aimed, Room}
 use Rattle.rules.proofs.Bits.{bit-zero}
 use Rattle.rules.proofs.Contents.{Sub, sum-held, size-sub, sub-with, sub-with-has, sub-without, sub-without-both, sub-into-without}
 use Rattle.rules.proofs.Sets.{aimed, risk-sub, risk-more, risk-in, room-sub, room-risk, room-joined, room-moved}
 use Rattle.rules.proofs.Step.{overWays, ahead, others, overWays-each}
+use Rattle.rules.proofs.Graph.{Vaguer}
 
--- what the accesses to bs are after
-abbrev pub targetsOf : ℕ → List ℕ → List ℕ → List Target
-targetsOf Z ts bs = map (targetOf Z ts) bs
+-- what the accesses to bs are after, where l was accessed directly before them
+abbrev pub targetsOf : ℕ → List ℕ → Last → List ℕ → List Target
+targetsOf Z ts l [] = []
+targetsOf Z ts l (b ∷ bs) = targetOf Z ts l b ∷ targetsOf Z ts (block b) bs
 
-pub all-aimed : (Z : ℕ) (ts bs : List ℕ) → Every (Aimed Z ts) (targetsOf Z ts bs)
-all-aimed Z ts [] = tt
-all-aimed Z ts (b ∷ bs) = (aimed Z ts b, all-aimed Z ts bs)
+module _ (Z : ℕ) (ts : List ℕ) where
+  pub all-aimed : (l : Last) (bs : List ℕ) → Every (Aimed Z ts) (targetsOf Z ts l bs)
+  all-aimed l [] = tt
+  all-aimed l (b ∷ bs) = (aimed Z ts l b, all-aimed (block b) bs)
+
+  pub length-targets : (l : Last) (bs : List ℕ) → length (targetsOf Z ts l bs) ≡ length bs
+  length-targets l [] = refl
+  length-targets l (b ∷ bs) = ap suc (length-targets (block b) bs)
+
+  -- those of p and then those of q
+  pub targets-append : (l : Last) (p q : List ℕ) → targetsOf Z ts l (p ++ q) ≡ targetsOf Z ts l p ++ targetsOf Z ts (lastAfter l p) q
+  unfolding lastAfter
+  targets-append l [] q = refl
+  targets-append l (b ∷ p) q = ap (targetOf Z ts l b ∷_) (targets-append (block b) p q)
 
 -- F summed over the N ^ (length p) draws of the accesses p, from contents C with m misses
 unfoldable pub value : (ℕ → ℕ → ℕ) → ℕ → List Target → ℕ → ℕ → ℕ
@@ -99,9 +115,9 @@ module _ (N C E y : ℕ) (g : ℕ → ℕ) (small : size E ≤ N) where
 
 -- ---- the value rises
 
-has-sub : (C D : ℕ) (x : Place) → Sub C D → has C x ≡ true → has D x ≡ true
-has-sub C D (at i) s h = s i h
-has-sub C D untracked s h = h
+has-sub : (C D : ℕ) (r : Bool) (x : Place) → Sub C D → has C r x ≡ true → has D r x ≡ true
+has-sub C D r (at i) s h = s i h
+has-sub C D r untracked s h = h
 
 pub sub-zero : (C : ℕ) → Sub 0 C
 sub-zero C i h = absurd (true≢false (sym h ∙ bit-zero i))
@@ -109,7 +125,7 @@ sub-zero C i h = absurd (true≢false (sym h ∙ bit-zero i))
 module _ (N Z : ℕ) (ts : List ℕ) where
   module _ (x : Target) (aim : Aimed Z ts x) where
     ahead-rises : (f : ℕ → ℕ → ℕ) → Rises N Z ts f → Rises N Z ts (ahead N x f)
-    ahead-rises f rises C D m n s l room = go (has C y) (has D y) refl refl
+    ahead-rises f rises C D m n s l room = go (hits x C) (hits x D) refl refl
       where
         y : Place
         y = x .place
@@ -123,16 +139,16 @@ module _ (N Z : ℕ) (ts : List ℕ) where
         gone : (i : ℕ) → bit (atRisk x C) i ≡ true → Sub (without C i) C
         gone i e = sub-without C i (risk-sub x C i e)
 
-        go : (a b : Bool) → has C y ≡ a → has D y ≡ b
+        go : (a b : Bool) → hits x C ≡ a → hits x D ≡ b
             → cond b (N * f D n) (overWays N D (atRisk x D) (λ E. f (with E y) (suc n)))
             ≤ cond a (N * f C m) (overWays N C (atRisk x C) (λ E. f (with E y) (suc m)))
         go true true c d = mul-le-mul-left N (rises C D m n s l room)
-        go true false c d = absurd (true≢false (sym (has-sub C D y s c) ∙ d))
+        go true false c d = absurd (true≢false (sym (has-sub C D (x .again) y s c) ∙ d))
         go false true c d =
             overWays-least N C (atRisk x C) (f D n) (λ E. f (with E y) (suc m)) less
             (λ i h e. rises (with (without C i) y) D (suc m) n
-            (sub-with-has (without C i) D y (λ j t. s j (gone i e j t)) d) (le-step l) room)
-            (λ h. rises (with C y) D (suc m) n (sub-with-has C D y s d) (le-step l) room)
+            (sub-with-has (without C i) D (x .again) y (λ j t. s j (gone i e j t)) d) (le-step l) room)
+            (λ h. rises (with C y) D (suc m) n (sub-with-has C D (x .again) y s d) (le-step l) room)
         go false false c d =
             overWays-rises N C (atRisk x C) D (atRisk x D) (λ E. f (with E y) (suc n)) (λ E. f (with E y) (suc m)) (risk-more x C D s) small
             (λ i h e. rises (with (without C i) y) (with (without D i) y) (suc m) (suc n)
@@ -164,12 +180,47 @@ module _ (N Z : ℕ) (ts : List ℕ) where
   value-rises F rises [] aim = rises
   value-rises F rises (x ∷ p) aim = ahead-rises x (aim .0) (value F N p) (value-rises F rises p (aim .1))
 
+  -- it does not fall where the block accessed directly before is not known: the access is then a miss, or what it was
+  pub value-unknown : (F : ℕ → ℕ → ℕ) → Rises N Z ts F → (l : Last) (bs : List ℕ) (C m : ℕ) → Room N Z ts C
+      → value F N (targetsOf Z ts l bs) C m ≤ value F N (targetsOf Z ts unknown bs) C m
+  unfolding value targetOf with atRisk
+  value-unknown F rises l [] C m room = le-refl (F C m)
+  value-unknown F rises l (b ∷ bs) C m room = go (isLast l b) (find ts b) refl
+    where
+      v : ℕ → ℕ → ℕ
+      v = value F N (targetsOf Z ts (block b) bs)
+
+      to : Bool → Place → Target
+      to r y = record { place = y; again = r; set = b % Z; mates = ofSet Z ts (b % Z) }
+
+      new : Target
+      new = to false untracked
+
+      aim : find ts b ≡ untracked → Aimed Z ts new
+      aim e = subst (λ (y : Place). Aimed Z ts (to false y)) e (aimed Z ts unknown b)
+
+      go : (r : Bool) (y : Place) → find ts b ≡ y → ahead N (to r y) v C m ≤ ahead N (to false y) v C m
+      go r (at i) e = le-refl (ahead N (to r (at i)) v C m)
+      go false untracked e = le-refl (ahead N new v C m)
+      go true untracked e =
+          overWays-least N C (atRisk new C) (v C m) (λ D. v D (suc m)) (room-risk N Z ts new (aim e) C room)
+          (λ i k h. v-rises (without C i) C (suc m) m (sub-without C i (risk-sub new C i h)) (le-step (le-refl m)) room)
+          (λ h. v-rises C C (suc m) m (λ i t. t) (le-step (le-refl m)) room)
+        where
+          v-rises : Rises N Z ts v
+          v-rises = value-rises F rises (targetsOf Z ts (block b) bs) (all-aimed Z ts (block b) bs)
+
+  pub value-vaguer : (F : ℕ → ℕ → ℕ) → Rises N Z ts F → (k l : Last) → Vaguer k l → (bs : List ℕ) (C m : ℕ) → Room N Z ts C
+      → value F N (targetsOf Z ts l bs) C m ≤ value F N (targetsOf Z ts k bs) C m
+  value-vaguer F rises k l (inl e) bs C m room = rw e (value-unknown F rises l bs C m room)
+  value-vaguer F rises k l (inr e) bs C m room = rw e (le-refl (value F N (targetsOf Z ts l bs) C m))
+
   -- where F is at most 1, the value is at most the number of draws
   pub value-most : (F : ℕ → ℕ → ℕ) → ((C m : ℕ) → F C m ≤ 1) → (p : List Target) → Every (Aimed Z ts) p → (C m : ℕ) → Room N Z ts C
       → value F N p C m ≤ N ^ length p
   unfolding value
   value-most F most [] aim C m room = rw (pow-zero N) (most C m)
-  value-most F most (x ∷ p) aim C m room = go (has C (x .place)) (value-most F most p (aim .1))
+  value-most F most (x ∷ p) aim C m room = go (hits x C) (value-most F most p (aim .1))
     where
       v : ℕ → ℕ → ℕ
       v = value F N p

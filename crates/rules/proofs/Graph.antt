@@ -1,7 +1,7 @@
 -- Every node's table is a table: for an accepted input, by induction over the nodes. The finished table is one, of as many misses as
 -- there are accesses at most, so that the questions accept it.
-use mathlib.Core.Path.{_≡_, refl, ap, _∙_, subst}
-use mathlib.Core.Bool.{true}
+use mathlib.Core.Path.{_≡_, refl, sym, ap, _∙_, subst}
+use mathlib.Core.Bool.{Bool, true, false, cond, true≢false}
 use mathlib.Core.List.{List, [], _∷_, _++_}
 use mathlib.Core.Logic.{_⊎_, inl, inr, ⊎-elim}
 use Prim.Native.Nat.{ℕ, zero, suc, _+_, _-_, _≤_, _<_, zero-le}
@@ -15,11 +15,11 @@ use Rattle.basics.specs.Sums.{sumOver}
 use Rattle.basics.proofs.Bools.{or-cases, or-left, or-right}
 use Rattle.basics.proofs.Sums.{sum-append}
 use Rattle.rules.specs.Units.{whole}
-use Rattle.rules.specs.Contents.{among, targetOf}
+use Rattle.rules.specs.Contents.{Last, block, unknown, agreed, among, targetOf}
 use Rattle.rules.specs.Input.{Input, nodes, offset, runOf, edgesOf, predecessors}
 use Rattle.rules.specs.Table.{State, begin, Work}
 use Rattle.rules.specs.Run.{run}
-use Rattle.rules.specs.Graph.{Worked, tableAt, joinAll, enter, node, worked, finished}
+use Rattle.rules.specs.Graph.{Worked, tableAt, lastAt, joinAll, enter, agreeAll, lastBefore, nodeLast, lastsTo, node, worked, finished}
 use Rattle.rules.specs.Shape.{Table}
 use Rattle.rules.proofs.Refusals.{Checked, predecessor-lower}
 use Rattle.rules.proofs.Fold.{folded-aside}
@@ -30,6 +30,10 @@ use Rattle.rules.proofs.Run.{advance-aside, table-wider, table-begin, t
 -- node j's table
 abbrev pub nodeTable : Input → ℕ → List State
 nodeTable i j = node i j (worked i j) .table
+
+-- its last block, where it is known
+abbrev pub lastOf : Input → ℕ → Last
+lastOf i j = nodeLast i j (lastsTo i j)
 
 length-worked : (i : Input) (n : ℕ) → length (worked i n .tables) ≡ n
 unfolding worked
@@ -46,6 +50,22 @@ table-stays i (suc n) j l = go (eq-or-lt-of-le (le-of-suc-le-suc l)) (table-stay
         → getD (worked i n .tables ++ (nodeTable i n ∷ [])) j [] ≡ nodeTable i j
     go (inl e) ih = rw e (getD-at (worked i n .tables) (nodeTable i n) [] [] n (length-worked i n))
     go (inr k) ih = List·getD-append (worked i n .tables) (nodeTable i n ∷ []) [] j (omega (arith, length-worked i n)) ∙ ih k
+
+-- and so does its last block
+length-lasts : (i : Input) (n : ℕ) → length (lastsTo i n) ≡ n
+unfolding lastsTo
+length-lasts i zero = refl
+length-lasts i (suc n) = omega (arith, length-append (lastsTo i n) (lastOf i n ∷ []), length-lasts i n)
+
+pub last-stays : (i : Input) (n j : ℕ) → j < n → lastAt (lastsTo i n) j ≡ lastOf i j
+unfolding lastsTo
+last-stays i zero j l = absurd (not-suc-le-zero l)
+last-stays i (suc n) j l = go (eq-or-lt-of-le (le-of-suc-le-suc l)) (last-stays i n j)
+  where
+    go : (j ≡ n) ⊎ (j < n) → (j < n → lastAt (lastsTo i n) j ≡ lastOf i j)
+        → getD (lastsTo i n ++ (lastOf i n ∷ [])) j unknown ≡ lastOf i j
+    go (inl e) ih = rw e (getD-at (lastsTo i n) (lastOf i n) [] unknown n (length-lasts i n))
+    go (inr k) ih = List·getD-append (lastsTo i n) (lastOf i n ∷ []) unknown j (omega (arith, length-lasts i n)) ∙ ih k
 
 pub finished-table : (i : Input) → 0 < nodes i → finished i .table ≡ nodeTable i (nodes i - 1)
 unfolding finished
@@ -77,6 +97,45 @@ module _ (N Z : ℕ) (ts : List ℕ) (K : ℕ) (some : 0 < N) (room : 0 < K) (M 
       let (p, q) = first-and-others (λ j. Table N Z ts K M (tableAt d j)) a is h in
       table-joinAll is _ q p
 
+-- ---- the last block
+
+-- k says no more than l: nothing, or the same
+abbrev pub Vaguer : Last → Last → Type 0
+Vaguer k l = (k ≡ unknown) ⊎ (k ≡ l)
+
+pub vaguer-trans : (j k l : Last) → Vaguer j k → Vaguer k l → Vaguer j l
+vaguer-trans j k l (inl e) q = inl e
+vaguer-trans j k l (inr e) (inl q) = inl (e ∙ q)
+vaguer-trans j k l (inr e) (inr q) = inr (e ∙ q)
+
+vaguer-both : (k l : Last) → Vaguer (agreed k l) k × Vaguer (agreed k l) l
+vaguer-both (block a) (block b) = go (eqb b a) refl
+  where
+    go : (t : Bool) → eqb b a ≡ t → Vaguer (cond t (block a) unknown) (block a) × Vaguer (cond t (block a) unknown) (block b)
+    go true e = (inr refl, inr (ap block (sym (eqb-true b a e))))
+    go false e = (inl refl, inl refl)
+vaguer-both (block a) unknown = (inl refl, inl refl)
+vaguer-both unknown l = (inl refl, inl refl)
+
+module _ (ls : List Last) where
+  agree-all : (is : List ℕ) (l : Last) → Vaguer (agreeAll ls is l) l × ((j : ℕ) → among is j ≡ true → Vaguer (agreeAll ls is l) (lastAt ls j))
+  unfolding agreeAll
+  agree-all [] l = (inr refl, λ j e. absurd (true≢false (sym e)))
+  agree-all (a ∷ is) l =
+      let (x, y) = vaguer-both l (lastAt ls a) in
+      let (z, rest) = agree-all is (agreed l (lastAt ls a)) in (
+        vaguer-trans _ _ _ z x,
+        first-or-other (λ j. Vaguer (agreeAll ls is (agreed l (lastAt ls a))) (lastAt ls j)) a is (vaguer-trans _ _ _ z y) rest,
+      )
+
+  -- what is known before a node, each of its predecessors knows
+  pub last-before : (is : List ℕ) (j : ℕ) → among is j ≡ true → Vaguer (lastBefore ls is) (lastAt ls j)
+  unfolding lastBefore
+  last-before [] j e = absurd (true≢false (sym e))
+  last-before (a ∷ is) j e =
+      let (z, rest) = agree-all is (lastAt ls a) in
+      first-or-other (λ j. Vaguer (agreeAll ls is (lastAt ls a)) (lastAt ls j)) a is z rest j e
+
 -- ---- the set-aside count, which stops at WHOLE
 
 module _ (K : ℕ) (d : Worked) where
@@ -90,16 +149,17 @@ module _ (K : ℕ) (d : Worked) where
   aside-enter [] h = h
   aside-enter (a ∷ is) h = aside-joinAll is _ h
 
-aside-run : (N Z K : ℕ) → 0 < N → 0 < K → (ts bs : List ℕ) (w : Work) → w .aside ≤ whole → run N Z K ts bs w .aside ≤ whole
+aside-run : (N Z K : ℕ) → 0 < N → 0 < K → (ts : List ℕ) (l : Last) (bs : List ℕ) (w : Work) → w .aside ≤ whole
+    → run N Z K ts l bs w .aside ≤ whole
 unfolding run
-aside-run N Z K some room ts [] w h = h
-aside-run N Z K some room ts (b ∷ bs) w h = aside-run N Z K some room ts bs _ (advance-aside N Z ts K some room (targetOf Z ts b) w)
+aside-run N Z K some room ts l [] w h = h
+aside-run N Z K some room ts l (b ∷ bs) w h = aside-run N Z K some room ts (block b) bs _ (advance-aside N Z ts K some room (targetOf Z ts l b) w)
 
 pub aside-worked : (i : Input) → 0 < i .ways → 0 < i .limit → (n : ℕ) → worked i n .aside ≤ whole
 unfolding worked node
 aside-worked i some room zero = omega arith
 aside-worked i some room (suc n) =
-    aside-run (i .ways) (i .sets) (i .limit) some room (i .tracked) (runOf i n) _ (aside-enter (i .limit) (worked i n) (predecessors (edgesOf (i .edges)) n) (aside-worked i some room n))
+    aside-run (i .ways) (i .sets) (i .limit) some room (i .tracked) _ (runOf i n) _ (aside-enter (i .limit) (worked i n) (predecessors (edgesOf (i .edges)) n) (aside-worked i some room n))
 
 -- ---- the runs
 
@@ -156,7 +216,7 @@ module _ (i : Input) (ok : Checked i) where
   unfolding node
   table-node M n l h =
       rw (← run-long i ok n l)
-      (table-run (i .ways) (i .sets) (i .limit) (i .tracked) (ok .some-ways) (ok .some-states) M (runOf i n) _
+      (table-run (i .ways) (i .sets) (i .limit) (i .tracked) (ok .some-ways) (ok .some-states) M _ (runOf i n) _
       (table-enter (i .ways) (i .sets) (i .tracked) (i .limit) (ok .some-ways) (ok .some-states) M (worked i n) (predecessors (edgesOf (i .edges)) n)
       (λ a e. rw (table-stays i n a (predecessor-lower i ok a n e .0)) (h a e))))
 

@@ -1,6 +1,6 @@
 -- The work does not look at the rooms, and the answer only at whether they are long enough: with room for 64 result states and 5,184 working
 -- states it is what it is with exactly the room that is needed.
-use mathlib.Core.Path.{_≡_, refl, ap, _∙_}
+use mathlib.Core.Path.{_≡_, refl, ap, ap₂, _∙_}
 use mathlib.Core.Bool.{Bool, true, false}
 use mathlib.Core.List.{List, [], _∷_, _++_}
 use Prim.Native.Nat.{ℕ, zero, suc, _-_, _≤_}
@@ -13,9 +13,11 @@ use Rattle.rules.specs.declared.Verdict.{Verdict}
 use Rattle.rules.specs.declared.Verdict.the-variants.{Accepted, Refused}
 use Rattle.rules.specs.declared.Outcome.the-variants.{Finished}
 use Rattle.rules.specs.Units.{units}
-use Rattle.rules.specs.Input.{Input, inputIn, inputOf, runOf}
+use Rattle.rules.specs.Contents.{Last}
+use Rattle.rules.specs.Input.{Input, inputIn, inputOf, runOf, edgesOf, predecessors}
 use Rattle.rules.specs.Table.{Work}
-use Rattle.rules.specs.Graph.{Worked, tableAt, node, worked, finished}
+use Rattle.rules.specs.Graph.{Worked, tableAt, enter, lastBefore, nodeLast, lastsTo, node, worked, finished}
+use Rattle.rules.specs.Run.{run}
 use Rattle.rules.specs.Refusals.{outside, reasons, verdict, answered, outcome}
 use Rattle.rules.proofs.Refusals.{within}
 
@@ -24,11 +26,19 @@ answered-alike Accepted i j e = ap (λ (d : Work). Finished (length (d .table)) 
 answered-alike (Refused r) i j e = refl
 
 module _ (c : Cache) (K : ℕ) (ts ns bs es : List ℕ) (r w : ℕ) where
+  same-lasts : (n : ℕ) → lastsTo (inputOf c K ts ns bs es) n ≡ lastsTo (inputIn c K ts ns bs es r w) n
+  unfolding lastsTo nodeLast runOf
+  same-lasts zero = refl
+  same-lasts (suc n) = ap (λ (ls : List Last). ls ++ (nodeLast (inputIn c K ts ns bs es r w) n ls ∷ [])) (same-lasts n)
+
   pub same-worked : (n : ℕ) → worked (inputOf c K ts ns bs es) n ≡ worked (inputIn c K ts ns bs es r w) n
   unfolding worked node runOf
   same-worked zero = refl
   same-worked (suc n) =
-      ap (λ (d : Worked). let v = node (inputIn c K ts ns bs es r w) n d in record { tables = d .tables ++ (v .table ∷ []); aside = v .aside }) (same-worked n)
+      ap₂
+      (λ (d : Worked) (ls : List Last). let ps = predecessors (edgesOf es) n in
+      let v = run (c .ways) (c .sets) K ts (lastBefore ls ps) (runOf (inputOf c K ts ns bs es) n) (enter K d ps) in
+      record { tables = d .tables ++ (v .table ∷ []); aside = v .aside }) (same-worked n) (same-lasts n)
 
   pub same-finished : finished (inputOf c K ts ns bs es) ≡ finished (inputIn c K ts ns bs es r w)
   unfolding finished

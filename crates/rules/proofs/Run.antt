@@ -8,7 +8,7 @@ use native.Mathlib.Omega.{arith}
 use lib.ListN.{length}
 use lib.Pow.{pow-pos}
 use Rattle.rules.specs.Units.{whole}
-use Rattle.rules.specs.Contents.{Target, size, atRisk, targetOf}
+use Rattle.rules.specs.Contents.{Target, Last, block, size, atRisk, targetOf}
 use Rattle.rules.specs.Table.{State, begin, present, total, Work}
 use Rattle.rules.specs.Step.{successors, access}
 use Rattle.rules.specs.Fold.{folded}
@@ -91,9 +91,10 @@ unfolding access
 access-length N Z ts K M x T few aim t = omega (arith, length-add (flatMap (successors N x) T) [], access-room N Z ts K M x T few aim t)
 
 module _ (N Z K : ℕ) (ts : List ℕ) (some : 0 < N) (room : 0 < K) where
-  pub table-run : (M : ℕ) (bs : List ℕ) (w : Work) → Table N Z ts K M (w .table) → Table N Z ts K (length bs + M) (run N Z K ts bs w .table)
+  pub table-run : (M : ℕ) (l : Last) (bs : List ℕ) (w : Work) → Table N Z ts K M (w .table)
+      → Table N Z ts K (length bs + M) (run N Z K ts l bs w .table)
   unfolding run
-  table-run M [] w t = rw (zero-add M) t
-  table-run M (b ∷ bs) w t =
+  table-run M l [] w t = rw (zero-add M) t
+  table-run M l (b ∷ bs) w t =
       rw (suc-add (length bs) M, ← add-suc (length bs) M)
-      (table-run (suc M) bs (advance N K (targetOf Z ts b) w) (table-advance N Z ts K some room M (targetOf Z ts b) w (aimed Z ts b) t))
+      (table-run (suc M) (block b) bs (advance N K (targetOf Z ts l b) w) (table-advance N Z ts K some room M (targetOf Z ts l b) w (aimed Z ts l b) t))

@@ -12,7 +12,7 @@ use lib.Dec.{eqb}
 use lib.ListN.{length, getD}
 use borrow.Author.Tests.{eqb-true, eq-eqb}
 use Rattle.basics.proofs.Bools.{both, same-test}
-use Rattle.rules.specs.Contents.{places, Place, Target, at, bit, with, without, shared, held, size, maskOf, ofSet, targetOf, atRisk}
+use Rattle.rules.specs.Contents.{places, Place, Target, Last, at, bit, with, without, shared, held, size, maskOf, ofSet, targetOf, atRisk}
 use Rattle.rules.specs.Table.{State, unitsOf}
 use Rattle.rules.specs.Step.{missed, miss}
 use Rattle.rules.specs.Shape.{Aimed, Room}
@@ -66,12 +66,12 @@ module _ (Z : ℕ) (ts : List ℕ) where
   one-set-only : (j k i : ℕ) → bit (ofSet Z ts j) i ≡ true → bit (ofSet Z ts k) i ≡ true → j ≡ k
   one-set-only j k i p q = sym (in-set j i p .1) ∙ in-set k i q .1
 
-  pub aimed : (b : ℕ) → Aimed Z ts (targetOf Z ts b)
+  pub aimed : (l : Last) (b : ℕ) → Aimed Z ts (targetOf Z ts l b)
   unfolding targetOf
-  aimed b =
+  aimed l b =
       record {
         placed = λ i e. find-at ts b i e .0;
-        own = λ i e. let (l, g) = find-at ts b i e in bit-set (b % Z) i l ∙ eq-eqb _ _ (ap (_% Z) g);
+        own = λ i e. let (k, g) = find-at ts b i e in bit-set (b % Z) i k ∙ eq-eqb _ _ (ap (_% Z) g);
         beside = refl;
       }
 
@@ -178,19 +178,19 @@ module _ (N Z : ℕ) (ts : List ℕ) where
 -- ---- one set
 
 -- every held block can be evicted
-pub one-set-risk : (ts : List ℕ) (b C : ℕ) → C < 2 ^ length ts → atRisk (targetOf 1 ts b) C ≡ C
+pub one-set-risk : (ts : List ℕ) (l : Last) (b C : ℕ) → C < 2 ^ length ts → atRisk (targetOf 1 ts l b) C ≡ C
 unfolding atRisk targetOf
-one-set-risk ts b C h =
+one-set-risk ts l b C h =
     bits-same (length ts) _ C (shared-lt (length ts) C _ h) h
-    (λ i l. same-test _ _ (sub-shared-left C _ i)
-    (λ e. both-shared C _ i e (bit-set 1 ts (b % 1) i l ∙ eq-eqb _ _ (mod-one (getD ts i 0) ∙ sym (mod-one b)))))
+    (λ i k. same-test _ _ (sub-shared-left C _ i)
+    (λ e. both-shared C _ i e (bit-set 1 ts (b % 1) i k ∙ eq-eqb _ _ (mod-one (getD ts i 0) ∙ sym (mod-one b)))))
 
 -- so that a miss is document 01's: each held block is lost with q units, and the rest of the N ways lose none
-pub one-set-miss : (N : ℕ) (ts : List ℕ) (b : ℕ) (s : State) → s .mask < 2 ^ length ts
-    → miss N (targetOf 1 ts b) s
-    ≡ map (λ e. missed (targetOf 1 ts b) s (without (s .mask) e) (unitsOf s / N)) (held (s .mask))
-    ++ missed (targetOf 1 ts b) s (s .mask) ((N - size (s .mask)) * (unitsOf s / N))
-    ∷ missed (targetOf 1 ts b) s 0 (unitsOf s % N)
+pub one-set-miss : (N : ℕ) (ts : List ℕ) (l : Last) (b : ℕ) (s : State) → s .mask < 2 ^ length ts
+    → miss N (targetOf 1 ts l b) s
+    ≡ map (λ e. missed (targetOf 1 ts l b) s (without (s .mask) e) (unitsOf s / N)) (held (s .mask))
+    ++ missed (targetOf 1 ts l b) s (s .mask) ((N - size (s .mask)) * (unitsOf s / N))
+    ∷ missed (targetOf 1 ts l b) s 0 (unitsOf s % N)
     ∷ []
 unfolding miss
-one-set-miss N ts b s h = rw (one-set-risk ts b (s .mask) h)
+one-set-miss N ts l b s h = rw (one-set-risk ts l b (s .mask) h)

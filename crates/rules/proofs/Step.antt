@@ -15,7 +15,7 @@ use lib.Pow.{pow-pos}
 use borrow.Author.Tests.{eq-eqb}
 use Rattle.basics.specs.Sums.{sumOver}
 use Rattle.basics.proofs.Sums.{sum-append, sum-map, sum-times, sum-each}
-use Rattle.rules.specs.Contents.{places, Target, bit, has, with, without, held, size, atRisk}
+use Rattle.rules.specs.Contents.{places, Target, bit, hits, with, without, held, size, atRisk}
 use Rattle.rules.specs.Units.{whole}
 use Rattle.rules.specs.Table.{State, unitsOf, plus, present, total}
 use Rattle.rules.specs.Step.{missed, miss, successors, leftOver, access}
@@ -34,7 +34,7 @@ overWays N C E g = sumOver (λ e. g (without C e)) (held E) + (N - size E) * g C
 
 -- what contents C with m misses are worth before an access of x, summed over the N ways, where f says what they are worth after it
 abbrev pub ahead : ℕ → Target → (ℕ → ℕ → ℕ) → ℕ → ℕ → ℕ
-ahead N x f C m = cond (has C (x .place)) (N * f C m) (overWays N C (atRisk x C) (λ D. f (with D (x .place)) (suc m)))
+ahead N x f C m = cond (hits x C) (N * f C m) (overWays N C (atRisk x C) (λ D. f (with D (x .place)) (suc m)))
 
 module _ (N : ℕ) (x : Target) (f : ℕ → ℕ → ℕ) where
   -- ahead of a state, and of the units that are left over
@@ -70,7 +70,7 @@ module _ (N : ℕ) (x : Target) (f : ℕ → ℕ → ℕ) where
   worth-successors : (s : State)
       → N * worth f (successors N x s) + leftOver N x s * aheadOf s ≡ unitsOf s * aheadOf s + N * (leftOver N x s * alone s)
   unfolding successors leftOver
-  worth-successors s = go (has (s .mask) (x .place))
+  worth-successors s = go (hits x (s .mask))
     where
       S : ℕ
       S = overWays N (s .mask) (atRisk x (s .mask)) (λ D. f (with D (x .place)) (suc (s .misses)))
@@ -121,7 +121,7 @@ overWays-each N C E y h =
     rw d (omega (arith, sum-each y (held E), ap (λ (n : ℕ). n * y) e))
 
 ahead-one : (N : ℕ) (x : Target) (C m : ℕ) → size (atRisk x C) ≤ N → ahead N x one C m ≡ N
-ahead-one N x C m h = go (has C (x .place))
+ahead-one N x C m h = go (hits x C)
   where
     go : (a : Bool) → cond a (N * 1) (overWays N C (atRisk x C) (λ D. 1)) ≡ N
     go true = omega arith
@@ -189,7 +189,7 @@ module _ (N Z : ℕ) (ts : List ℕ) (M : ℕ) (x : Target) (some : 0 < N) (aim 
 
   successors-shaped : (s : State) → Shaped N Z ts M s → Every After (successors N x s)
   unfolding successors miss
-  successors-shaped s h = go (has (s .mask) (x .place))
+  successors-shaped s h = go (hits x (s .mask))
     where
       C : ℕ
       C = s .mask
@@ -228,7 +228,7 @@ module _ (N Z : ℕ) (ts : List ℕ) (M : ℕ) (x : Target) (some : 0 < N) (aim 
 module _ (N : ℕ) (x : Target) where
   length-successors : (s : State) → size (atRisk x (s .mask)) ≤ N → length (present (successors N x s)) ≤ suc N
   unfolding successors miss size
-  length-successors s h = go (has (s .mask) (x .place))
+  length-successors s h = go (hits x (s .mask))
     where
       C : ℕ
       C = s .mask

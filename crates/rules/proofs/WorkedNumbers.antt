@@ -1,11 +1,11 @@
--- The numbers worked by hand, document 01, section 6, [P]: one table of inputs and what comes out, and one statement about the
--- definitions: each comes out as it was worked.
+-- The numbers worked by hand, document 01, section 6, [P], as document 02 changes them: one table of inputs and what comes out, and one
+-- statement about the definitions: each comes out as it was worked.
 use mathlib.Core.Path.{_≡_, refl}
 use mathlib.Core.List.{List, [], _∷_, map, flatMap}
-use Prim.Native.Nat.{ℕ, _^_, _*_}
+use Prim.Native.Nat.{ℕ, _^_}
 use Rattle.rules.specs.Units.{whole, more}
 use Rattle.rules.specs.Answers.{OutcomeSays, outcomeSays}
-use Rattle.rules.specs.Contents.{places, find, bit, with, without, shared, heldBelow, held, size, maskOf, ofSet, targetOf, atRisk}
+use Rattle.rules.specs.Contents.{places, find, bit, with, without, shared, heldBelow, held, size, maskOf, ofSet, lastAfter, targetOf, atRisk}
 use Rattle.rules.specs.Input.{Input, cache, inputOf, offset, runOf, predecessors}
 use Rattle.rules.specs.Ordered.{insert, insertAll, remove, best}
 use Rattle.rules.specs.Table.{State, state, order, add}
@@ -13,7 +13,7 @@ use Rattle.rules.specs.Step.{miss, successors, leftOver, access, accessA
 use Rattle.rules.specs.Fold.{choice, foldAt, fold, folded}
 use Rattle.rules.specs.Run.{advance, run}
 use Rattle.rules.specs.Join.{paired, walk, fromFront, join}
-use Rattle.rules.specs.Graph.{joinAll, enter, node, worked, finished}
+use Rattle.rules.specs.Graph.{joinAll, enter, agreeAll, lastBefore, nodeLast, lastsTo, node, worked, finished}
 use Rattle.rules.specs.Refusals.{edgesKept, reasons, verdict, outcome}
 
 -- an input; the final states; what the call says of it: the number 0 for accepted, how many states, the set-aside count
@@ -29,7 +29,7 @@ comes i T n aside = record { input = i; states = T; said = record { number = 0; 
 pub workedOut : Case → Case
 workedOut c = record { input = c .input; states = finished (c .input) .table; said = outcomeSays (outcome (c .input)) }
 
--- blocks a, b, c, tracked as bits 0, 1, 2 unless said; u is untracked; one set unless said
+-- blocks a, b, c, tracked as bits 0, 1, 2 unless said; u and v are untracked; one set unless said
 abbrev a : ℕ
 a = 10
 
@@ -41,6 +41,9 @@ c = 12
 
 abbrev u : ℕ
 u = 7
+
+abbrev v : ℕ
+v = 8
 
 abbrev abc : List ℕ
 abc = a ∷ b ∷ c ∷ []
@@ -63,17 +66,20 @@ cases =
     ∷ comes (inputOf (cache 1 2) 2 abc (3 ∷ []) (a ∷ b ∷ c ∷ []) []) (state 4 3 (2 ^ 47) ∷ state 6 3 (2 ^ 47) ∷ []) 2 70368744177664
     -- 7: only a tracked
     ∷ comes (inputOf (cache 1 2) 64 (a ∷ []) (3 ∷ []) (a ∷ u ∷ a ∷ []) []) (state 1 2 (2 ^ 47) ∷ state 1 3 (2 ^ 47) ∷ []) 2 0
-    -- 8: only a tracked, u twice
-    ∷ comes (inputOf (cache 1 2) 64 (a ∷ []) (4 ∷ []) (a ∷ u ∷ u ∷ a ∷ []) []) (state 1 3 (2 ^ 46) ∷ state 1 4 (3 * 2 ^ 46) ∷ []) 2 0
+    -- 8, as request 3/13 has it: only a tracked, u twice running
+    ∷ comes (inputOf (cache 1 2) 64 (a ∷ []) (4 ∷ []) (a ∷ u ∷ u ∷ a ∷ []) []) (state 1 2 (2 ^ 47) ∷ state 1 3 (2 ^ 47) ∷ []) 2 0
     -- 9: nodes a; b; empty; a
     ∷ comes (inputOf (cache 1 2) 64 abc (1 ∷ 1 ∷ 0 ∷ 1 ∷ []) (a ∷ b ∷ a ∷ []) (0 ∷ 1 ∷ 0 ∷ 2 ∷ 1 ∷ 3 ∷ 2 ∷ 3 ∷ []))
     (state 1 2 (2 ^ 47) ∷ state 1 3 (2 ^ 47) ∷ []) 2 0
-    -- 10: nothing tracked
-    ∷ comes (inputOf (cache 1 2) 64 [] (2 ∷ []) (u ∷ u ∷ []) []) (state 0 2 whole ∷ []) 1 0
+    -- 10, as request 3/13 has it: nothing tracked, u twice running
+    ∷ comes (inputOf (cache 1 2) 64 [] (2 ∷ []) (u ∷ u ∷ []) []) (state 0 1 whole ∷ []) 1 0
+    -- request 3/13: an empty run passes the last block on, and both predecessors know it; the same with v in one of them
+    ∷ comes (inputOf (cache 1 2) 64 [] (1 ∷ 0 ∷ 0 ∷ 1 ∷ []) (u ∷ u ∷ []) (0 ∷ 1 ∷ 0 ∷ 2 ∷ 1 ∷ 3 ∷ 2 ∷ 3 ∷ [])) (state 0 1 whole ∷ []) 1 0
+    ∷ comes (inputOf (cache 1 2) 64 [] (1 ∷ 1 ∷ 0 ∷ 1 ∷ []) (u ∷ v ∷ u ∷ []) (0 ∷ 1 ∷ 0 ∷ 2 ∷ 1 ∷ 3 ∷ 2 ∷ 3 ∷ [])) (state 0 3 whole ∷ []) 1 0
     -- request 1/13: two sets, a and c in one, b in the other
     ∷ comes (inputOf (cache 2 2) 64 abc (3 ∷ []) (a ∷ b ∷ c ∷ []) []) (state 6 3 (2 ^ 47) ∷ state 7 3 (2 ^ 47) ∷ []) 2 0
     ∷ []
 
 pub each-comes-out : map workedOut cases ≡ cases
-unfolding workedOut cases more places find bit with without shared heldBelow held size maskOf ofSet targetOf atRisk offset runOf predecessors insert insertAll remove best order add miss successors leftOver access accessAside choice foldAt fold folded advance run paired walk fromFront join joinAll enter node worked finished edgesKept reasons verdict outcome flatMap
+unfolding workedOut cases more places find bit with without shared heldBelow held size maskOf ofSet lastAfter targetOf atRisk offset runOf predecessors insert insertAll remove best order add miss successors leftOver access accessAside choice foldAt fold folded advance run paired walk fromFront join joinAll enter agreeAll lastBefore nodeLast lastsTo node worked finished edgesKept reasons verdict outcome flatMap
 each-comes-out = refl

@@ -1,5 +1,5 @@
 -- Contents: a set of tracked blocks as a mask, a number whose bit i says whether the block at place i of the list is in the set.
--- Document 01, section 2; document 02, request 1/13.
+-- Document 01, section 2; document 02, requests 1/13 and 3/13.
 use mathlib.Core.Bool.{Bool, true, false, cond, _||_, _&&_, not}
 use mathlib.Core.List.{List, [], _∷_, _++_}
 use Prim.Native.Nat.{ℕ, zero, suc, _+_, _*_, _/_, _%_, _^_}
@@ -8,6 +8,8 @@ use lib.Dec.{eqb}
 use lib.ListN.{length}
 pub use Rattle.rules.specs.declared.Place.{Place}
 pub use Rattle.rules.specs.declared.Place.the-variants.{At as at, Untracked as untracked}
+pub use Rattle.rules.specs.declared.Last.{Last}
+pub use Rattle.rules.specs.declared.Last.the-variants.{Block as block, Unknown as unknown}
 pub use Rattle.rules.specs.declared.Target.{Target}
 
 -- at most 16 blocks are tracked
@@ -42,10 +44,11 @@ find (t ∷ ts) b = cond (eqb t b) (at 0) (further (find ts b))
 unfoldable pub bit : ℕ → ℕ → Bool
 bit C i = eqb (C / 2 ^ i % 2) 1
 
--- whether they hold the block that was looked up; an untracked one is never surely held
-abbrev pub has : ℕ → Place → Bool
-has C (at i) = bit C i
-has C untracked = false
+-- whether the block that was looked up is surely held: a tracked one where C has it, an untracked one where it was accessed directly
+-- before, which r says
+abbrev pub has : ℕ → Bool → Place → Bool
+has C r (at i) = bit C i
+has C r untracked = r
 
 -- C with the block that was looked up; an untracked one adds nothing
 unfoldable pub with : ℕ → Place → ℕ
@@ -84,9 +87,32 @@ maskOf test (t ∷ ts) = maskOf test ts * 2 + cond (test t) 1 0
 unfoldable pub ofSet : ℕ → List ℕ → ℕ → ℕ
 ofSet Z ts j = maskOf (λ t. eqb (t % Z) j) ts
 
--- what an access to b is after: its place, its set, and the tracked blocks of that set
-unfoldable pub targetOf : ℕ → List ℕ → ℕ → Target
-targetOf Z ts b = record { place = find ts b; set = b % Z; mates = ofSet Z ts (b % Z) }
+-- ---- the block accessed directly before
+
+-- whether b was
+abbrev pub isLast : Last → ℕ → Bool
+isLast (block a) b = eqb a b
+isLast unknown b = false
+
+-- the last block after the accesses bs: each makes its block the last one, and an empty run passes it on
+unfoldable pub lastAfter : Last → List ℕ → Last
+lastAfter l [] = l
+lastAfter l (b ∷ bs) = lastAfter (block b) bs
+
+-- what one says, if the other says the same; where one knows nothing, nothing is known
+abbrev pub agreed : Last → Last → Last
+agreed (block a) k = cond (isLast k a) (block a) unknown
+agreed unknown k = unknown
+
+-- ---- what an access is after
+
+-- an access to b, where l was accessed directly before: its place, whether it is accessed again, its set, and the tracked blocks of that set
+unfoldable pub targetOf : ℕ → List ℕ → Last → ℕ → Target
+targetOf Z ts l b = record { place = find ts b; again = isLast l b; set = b % Z; mates = ofSet Z ts (b % Z) }
+
+-- whether it is surely a hit on contents C
+abbrev pub hits : Target → ℕ → Bool
+hits x C = has C (x .again) (x .place)
 
 -- the blocks of C that a miss can evict: those of its own set
 unfoldable pub atRisk : Target → ℕ → ℕ

@@ -1,7 +1,8 @@
--- A graph: document 01, section 3. Each node is worked once, in order, from the joined tables of its predecessors.
+-- A graph: document 01, section 3; document 02, request 3/13. Each node is worked once, in order, from the joined tables of its predecessors.
 use mathlib.Core.List.{List, [], _∷_, _++_}
 use Prim.Native.Nat.{ℕ, zero, suc, _-_}
 use lib.ListN.{getD}
+use Rattle.rules.specs.Contents.{Last, unknown, agreed, lastAfter}
 use Rattle.rules.specs.Input.{Input, nodes, runOf, edgesOf, predecessors}
 use Rattle.rules.specs.Table.{State, begin, Work}
 use Rattle.rules.specs.Fold.{folded}
@@ -28,9 +29,38 @@ unfoldable pub enter : ℕ → Worked → List ℕ → Work
 enter K d [] = record { table = begin; aside = d .aside }
 enter K d (p ∷ ps) = joinAll K d ps (record { table = tableAt d p; aside = d .aside })
 
+-- ---- the last block of each node, which the tables do not tell
+
+-- that of node j, if it is known
+abbrev pub lastAt : List Last → ℕ → Last
+lastAt ls j = getD ls j unknown
+
+-- l, if the nodes ps all agree with it
+unfoldable pub agreeAll : List Last → List ℕ → Last → Last
+agreeAll ls [] l = l
+agreeAll ls (p ∷ ps) l = agreeAll ls ps (agreed l (lastAt ls p))
+
+-- the block accessed directly before a node whose predecessors are ps: known only where they all agree, and not before the first access
+unfoldable pub lastBefore : List Last → List ℕ → Last
+lastBefore ls [] = unknown
+lastBefore ls (p ∷ ps) = agreeAll ls ps (lastAt ls p)
+
+-- the last block at the end of node j, after the nodes before it
+unfoldable pub nodeLast : Input → ℕ → List Last → Last
+nodeLast i j ls = lastAfter (lastBefore ls (predecessors (edgesOf (i .edges)) j)) (runOf i j)
+
+-- those of so many nodes from the first on
+unfoldable pub lastsTo : Input → ℕ → List Last
+lastsTo i zero = []
+lastsTo i (suc j) = let ls = lastsTo i j in ls ++ (nodeLast i j ls ∷ [])
+
+-- ---- node after node
+
 -- node j, after the nodes before it: its run, from where it starts
 unfoldable pub node : Input → ℕ → Worked → Work
-node i j d = run (i .ways) (i .sets) (i .limit) (i .tracked) (runOf i j) (enter (i .limit) d (predecessors (edgesOf (i .edges)) j))
+node i j d =
+    let ps = predecessors (edgesOf (i .edges)) j in
+    run (i .ways) (i .sets) (i .limit) (i .tracked) (lastBefore (lastsTo i j) ps) (runOf i j) (enter (i .limit) d ps)
 
 -- so many nodes from the first on, worked in order
 unfoldable pub worked : Input → ℕ → Worked

@@ -1,9 +1,9 @@
--- One access: document 01, section 3; document 02, request 1/13. N ways in a set; x is what the access is after.
+-- One access: document 01, section 3; document 02, requests 1/13 and 3/13. N ways in a set; x is what the access is after.
 use mathlib.Core.Bool.{cond}
 use mathlib.Core.List.{List, [], _∷_, _++_, map, flatMap}
 use Prim.Native.Nat.{ℕ, suc, _-_, _*_, _/_, _%_}
 use Rattle.basics.specs.Sums.{sumOver}
-use Rattle.rules.specs.Contents.{Target, has, with, without, held, size, atRisk}
+use Rattle.rules.specs.Contents.{Target, hits, with, without, held, size, atRisk}
 use Rattle.rules.specs.Table.{State, state, unitsOf, add}
 
 -- one more miss, from s: the contents C with the accessed block, and u units
@@ -24,11 +24,11 @@ miss N x s =
 
 -- the states that follow s: a hit leaves it as it is
 unfoldable pub successors : ℕ → Target → State → List State
-successors N x s = cond (has (s .mask) (x .place)) (s ∷ []) (miss N x s)
+successors N x s = cond (hits x (s .mask)) (s ∷ []) (miss N x s)
 
 -- what of s is set aside: the units that are left over at a miss, even where they land in a state that was reached anyway
 unfoldable pub leftOver : ℕ → Target → State → ℕ
-leftOver N x s = cond (has (s .mask) (x .place)) 0 (unitsOf s % N)
+leftOver N x s = cond (hits x (s .mask)) 0 (unitsOf s % N)
 
 -- the table after the access, before any fold
 unfoldable pub access : ℕ → Target → List State → List State

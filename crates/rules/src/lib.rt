@@ -71,10 +71,17 @@ pub struct Cache {
     pub ways: u32,
 }
 
-// What an access is after: where its block stands in the list of tracked blocks, the set that it belongs to, and the tracked blocks of
-// that set, as a mask.
+// The block accessed directly before, if it is known.
+pub enum Last {
+    Unknown,
+    Block(u32),
+}
+
+// What an access is after: where its block stands in the list of tracked blocks, whether it was accessed directly before, the set that it
+// belongs to, and the tracked blocks of that set, as a mask.
 pub struct Target {
     pub place: Place,
+    pub again: bool,
     pub set: u32,
     pub mates: u64,
 }

@@ -1,6 +1,5 @@
 // The worked cases of section 6. The blocks a, b, c are 10, 11, 12, and u is 13; a, b, c are tracked unless said.
 use crate::numbers::HALF;
-use crate::numbers::QUARTER;
 use crate::numbers::WHOLE;
 use crate::report::Report;
 use crate::trial::case;
@@ -144,8 +143,9 @@ fn case_7(report: Report) -> Report {
     )
 }
 
+// As document 02, request 3/13, has it, and case 10 too.
 fn case_8(report: Report) -> Report {
-    let states: [u64; 6] = [1, 3, QUARTER, 1, 4, 3 * QUARTER];
+    let states: [u64; 6] = [1, 2, HALF, 1, 3, HALF];
     two_ways(b"case 8:", &[10], &[4], &[10, 13, 13, 10], &states, report)
 }
 
@@ -169,7 +169,7 @@ fn case_9(report: Report) -> Report {
 }
 
 fn case_10(report: Report) -> Report {
-    two_ways(b"case 10:", &[], &[2], &[13, 13], &[0, 2, WHOLE], report)
+    two_ways(b"case 10:", &[], &[2], &[13, 13], &[0, 1, WHOLE], report)
 }
 
 // Section 8: an empty way is not filled first, so a b gives two states.

@@ -1,9 +1,10 @@
 // Every number that document 01 gives, through the graph call and the questions: the worked cases of section 6, each asked every
 // question, and both sides of each refusal of section 5 but the text's. After each call the rooms are compared word by word. Cases on
-// caches with sets (document 02, request 1/13) are worked by hand. The longest path and the questions in cycles (document 02, request
-// 9/13) are asked of the same graphs and tables, and of some more.
+// caches with sets (document 02, request 1/13) and of the same untracked block twice running (3/13) are worked by hand. The longest path
+// and the questions in cycles (9/13) are asked of the same graphs and tables, and of some more.
 use crate::cases::all_cases;
 use crate::cycle_refusals::all_cycle_refusals;
+use crate::last::all_lasts;
 use crate::numbers::say;
 use crate::paths::all_paths;
 use crate::refusals::all_refusals;
@@ -17,6 +18,7 @@ mod cores;
 mod cycle_refusals;
 mod cycles;
 mod expected;
+mod last;
 mod numbers;
 mod paths;
 mod refusals;
@@ -34,7 +36,7 @@ fn main() {
         comparisons: 0,
         failed: 0,
     };
-    let cases = all_sets(all_cases(nothing));
+    let cases = all_lasts(all_sets(all_cases(nothing)));
     let refusals = all_refusals(cases);
     let tables = all_tables(refusals);
     let all = all_cycle_refusals(all_paths(tables));

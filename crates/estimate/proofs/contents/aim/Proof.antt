@@ -11,14 +11,15 @@ sub-set c = counts-some (c .before .args .sets) (c .before .pre .1)
 
 returns : tie.Need-returns
 returns c =
-    let b = c .before .before .before in
-    aimed-at (b .args .sets) (now (b .args .tracked)) (b .args .block) _ _ _ (c .before .look-up .ensures) (low-bits (b .args .sets) (b .args .block) (b .pre .1)) (c .mates-of .ensures)
+    let b = c .before .before .before .before in
+    aimed-at (b .args .sets) (now (b .args .tracked)) (b .args .last) (b .args .block) _ _ _ _ (c .before .before .look-up .ensures) (c .before .is-last .ensures) (low-bits (b .args .sets) (b .args .block) (b .pre .1)) (c .mates-of .ensures)
 
 pub aim-spec : {M : Type 1} → statement M
 aim-spec =
     tie.close
     (tie.spec
     sub-set
+    (λ c κs. search needs)
     (λ c κs. search needs)
     (λ c κs. search needs)
     returns)

@@ -1,4 +1,4 @@
--- `has_block`: the place that was found is one of 16; an untracked block is never surely held.
+-- `has_block`: the place that was found is one of 16; an untracked block is surely held where it was accessed directly before.
 use borrow.Author.Needs.{needs}
 use Rattle.estimate.proofs.contents.has_block.Statement.{statement}
 use Rattle.estimate.proofs.contents.has_block.Tie as tie

@@ -25,7 +25,7 @@ seal-requires c κs = let a = c .before .before .before .before .before .before 
     let g = c .before .before .before .before .before .before .before .enter in
     let h = c .before .before .before .run in
     let r = entered-ready (a .cache) (now (a .tracked)) (a .limit) (4096 - length (now (a .accesses))) (a .j) (a .aside .0) (now (a .edges)) (now (a .work)) s (g .result .states) (g .result .aside .0) (g .last .0) (g .kept .0) (g .ensures) in (
-      node-few (a .cache) (now (a .tracked)) (a .limit) (a .j * 64) (g .result .states) (g .result .aside .0) (now (a .accesses)) (g .last .0) (c .before .before .before .before .before .before .before .before .before .before .before .before .before .pre .0) r (h .result .states) (h .result .aside .0) (tableOf (h .last .0)) (h .ensures),
+      node-few (a .cache) (now (a .tracked)) (a .limit) (a .j * 64) (g .result .states) (g .result .aside .0) (a .last) (now (a .accesses)) (g .last .0) (c .before .before .before .before .before .before .before .before .before .before .before .before .before .pre .0) r (h .result .states) (h .result .aside .0) (tableOf (h .last .0)) (h .ensures),
       omega (arith, s .room, s .node, g .kept .0, h .kept .0),
     )
 
@@ -33,7 +33,7 @@ returns : tie.Need-returns
 returns c = let a = c .before .before .before .before .before .before .before .before .before .before .before .before .before .before .before .before .before .args in
     let g = c .before .before .before .before .before .before .before .before .before .before .before .enter in
     let h = c .before .before .before .before .before .before .before .run in
-    node-done (a .cache) (now (a .tracked)) (a .limit) (a .j) (a .aside .0) (g .result .states) (g .result .aside .0) (h .result .states) (h .result .aside .0) (now (a .accesses)) (now (a .edges)) (now (a .work)) (g .last .0) (h .last .0) (tableOf (c .before .before .before .seal .last .0))
+    node-done (a .cache) (now (a .tracked)) (a .limit) (a .j) (a .aside .0) (g .result .states) (g .result .aside .0) (h .result .states) (h .result .aside .0) (a .last) (now (a .accesses)) (now (a .edges)) (now (a .work)) (g .last .0) (h .last .0) (tableOf (c .before .before .before .seal .last .0))
     (c .before .before .before .before .before .before .before .before .before .before .before .before .before .before .before .before .before .pre .0) (c .before .before .before .before .before .before .before .before .before .before .before .before .before .before .before .before .before .pre .1) (g .kept .0) (g .ensures) (h .kept .0) (h .ensures) (c .before .before .before .seal .ensures)
 
 pub work-node-spec : {M : Type 1} → statement M

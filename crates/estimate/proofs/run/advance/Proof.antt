@@ -13,7 +13,7 @@ aim-requires c κs = let p = c .before .before .pre in (p .ranges .few-tracked, 
 
 -- the access is after a block of the cache
 aims : (c : tie.After-aim) → Aimed (c .before .before .before .args .cache .sets) (now (c .before .before .before .args .tracked)) (c .aim .result)
-aims c = aimed-so _ _ (c .before .before .before .args .block) _ (c .aim .ensures)
+aims c = let a = c .before .before .before .args in aimed-so _ _ (a .last) (a .block) _ (c .aim .ensures)
 
 gather-requires : tie.Need-gather-requires
 gather-requires c κs =

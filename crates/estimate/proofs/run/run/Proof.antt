@@ -14,13 +14,13 @@ use Rattle.estimate.proofs.run.run.Statement.{statement}
 use Rattle.estimate.proofs.run.run.Tie as tie
 
 abbrev Inv-loop : tie.InvT-loop
-Inv-loop work₀ at accesses tracked cache limit so-far₀ i₀ work so-far i =
+Inv-loop work₀ at accesses tracked cache limit so-far₀ before₀ i₀ work so-far before i =
     (i ≤ length accesses) × (length work ≡ length work₀) × Ready cache tracked limit (4096 - (length accesses - i)) at (so-far .states) (so-far .aside .0) work
     × (take at (tableOf work) ≡ take at (tableOf work₀))
-    × Ran (cache .ways) (cache .sets) limit tracked accesses i (workAt at (so-far .states) (so-far .aside .0) work) (workAt at (so-far₀ .states) (so-far₀ .aside .0) work₀)
+    × Ran (cache .ways) (cache .sets) limit tracked accesses i before (workAt at (so-far .states) (so-far .aside .0) work) before₀ (workAt at (so-far₀ .states) (so-far₀ .aside .0) work₀)
 
 abbrev μ-loop : tie.MeasureT-loop
-μ-loop work₀ at accesses tracked cache limit so-far₀ i₀ work so-far i = length accesses - i
+μ-loop work₀ at accesses tracked cache limit so-far₀ before₀ i₀ work so-far before i = length accesses - i
 
 loop-holds : tie.Need-loop-holds Inv-loop μ-loop
 loop-holds c = let a = c .before .before .before .args in
@@ -40,15 +40,15 @@ loop-again c = let a = c .before .before .before .before .before .before .before
     let next = 4096 - (length (now (a .accesses)) - (l .i + 1)) in (
       search needs,
       search needs,
-      ready-next (a .cache) t (a .limit) (4096 - (length (now (a .accesses)) - l .i)) next (a .at) _ _ _ _ _ (l .work) (g .last .0) (omega (arith, c .before .before .before .before .before .before .before .before .before .before .pre .0)) (g .kept .0) (l .inv .2) (g .ensures),
+      ready-next (a .cache) t (a .limit) (4096 - (length (now (a .accesses)) - l .i)) next (a .at) _ _ _ _ (l .before) _ (l .work) (g .last .0) (omega (arith, c .before .before .before .before .before .before .before .before .before .before .pre .0)) (g .kept .0) (l .inv .2) (g .ensures),
       g .ensures .before ∙ l .inv .3,
-      rw (add-one (l .i), stands-work _ _ _ _ _ _ (g .ensures)) (ran-next (a .cache .ways) (a .cache .sets) (a .limit) t (now (a .accesses)) (l .i) _ _ _ (omega arith) refl (l .inv .4)),
+      rw (add-one (l .i), stands-work _ _ _ _ _ _ (g .ensures)) (ran-next (a .cache .ways) (a .cache .sets) (a .limit) t (now (a .accesses)) (l .i) (l .before) _ _ _ _ (omega arith) refl (l .inv .4)),
     )
 
 returns : tie.Need-returns Inv-loop μ-loop
 returns c = let a = c .before .before .before .before .before .args in
     let l = c .before .loop in
-    ran-stands (a .cache) (now (a .tracked)) (a .limit) _ (a .at) _ _ (l .i) (now (a .accesses)) (l .work) _ _ (omega arith) (l .inv .2) (l .inv .3) (l .inv .4)
+    ran-stands (a .cache) (now (a .tracked)) (a .limit) _ (a .at) _ _ (l .i) (now (a .accesses)) (l .work) (l .before) _ _ _ (omega arith) (l .inv .2) (l .inv .3) (l .inv .4)
 
 pub run-spec : {M : Type 1} → statement M
 run-spec =
