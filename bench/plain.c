@@ -1,4 +1,4 @@
-/* Document 01 in plain C, with requests 1/13 and 3/13 of document 02. The section or clause that a function follows stands above it. */
+/* Document 01 in plain C, with requests 1/13, 3/13 and 4/13 of document 02. The section or clause that a function follows stands above it. */
 #include "plain.h"
 
 #include <inttypes.h>
@@ -203,17 +203,22 @@ static void find_mates(const struct plain_input *graph, uint64_t mates[MOST_SETS
 }
 
 /* "Access to block b, from a state holding set C, with m misses and w units". 1/13: "q units go to the loss of each held block of that set,
- * and (N - held blocks of that set)xq to losing none. The remainder goes where it did." The bit of an untracked block is 0. */
+ * and (N - held blocks of that set)xq to losing none. The remainder goes where it did." 4/13: "When a missing state holds no known block
+ * (of the accessed set), all ways lead to one successor. The remainder then goes there and is not added to the set-aside count." */
 static void step_from(struct table *next, const struct plain_state *from, struct target to, uint32_t ways, uint64_t *aside)
 {
     if ((from->mask & to.bit) != 0) {
         put(next, from->mask, from->misses, from->units);
         return;
     }
-    uint64_t share = from->units / ways;
-    uint64_t rest = from->units - share * ways;
     uint64_t misses = from->misses + 1;
     uint64_t at_risk = from->mask & to.mates;
+    if (at_risk == 0) {
+        put(next, from->mask | to.bit, misses, from->units);
+        return;
+    }
+    uint64_t share = from->units / ways;
+    uint64_t rest = from->units - share * ways;
     for (unsigned i = 0; i < MOST_TRACKED; i++) {
         uint64_t evicted = (uint64_t)1 << i;
         if ((at_risk & evicted) != 0)

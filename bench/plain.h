@@ -1,5 +1,5 @@
-/* Document 01 in plain C, with requests 1/13 and 3/13 of document 02: the graph call (sections 2, 3 and 5), the questions (section 4) and
- * the curve as text (section 7). It is what the proved library is compared with and measured against. No state is kept between calls. */
+/* Document 01 in plain C, with requests 1/13, 3/13 and 4/13 of document 02: the graph call (sections 2, 3 and 5), the questions (section 4)
+ * and the curve as text (section 7). It is what the proved library is compared with and measured against. No state is kept between calls. */
 #ifndef PLAIN_H
 #define PLAIN_H
 

@@ -13,7 +13,7 @@ use lib.ListN.{length, take, length-append, length-map, length-take}
 use lib.Seq.{append-snoc, length-take-le, take-suc, take-all}
 use mir.Syntax.{w64}
 use mir.Val.{Fits}
-use borrow.Author.Tests.{eq-eqb}
+use borrow.Author.Tests.{eq-eqb, ne-eqb}
 use Rattle.rules.specs.declared.Target.{Target}
 use Rattle.rules.specs.declared.State.{State}
 use Rattle.basics.specs.Sums.{sumOver}
@@ -22,7 +22,7 @@ use Rattle.rules.specs.Units.{whole, more}
 use Rattle.rules.specs.Contents.{bit, hits, heldBelow, held, size, without, atRisk}
 use Rattle.rules.specs.Ordered.{insertAll}
 use Rattle.rules.specs.Table.{state, unitsOf, rising, present, add, stateAt}
-use Rattle.rules.specs.Step.{missed, miss, successors, leftOver, access, accessAside}
+use Rattle.rules.specs.Step.{missed, restOf, miss, successors, leftOver, access, accessAside}
 use Rattle.rules.specs.Shape.{Every}
 use Rattle.rules.proofs.Splitting.{more-adds, more-more}
 use Rattle.rules.proofs.Lists.{every-take, every-at, every-weaker, flat-snoc}
@@ -144,16 +144,16 @@ module _ (x : Target) (s : State) (E N q : ℕ) where
         last (yes l) = omega (arith, length-present (t ∷ []))
         last (no l) = rw (gone (N - z) (omega arith) (ap unitsOf p)) (omega arith)
 
-  pub miss-put : (n m₁ m₂ r : ℕ) (T T₁ T₂ T₃ : List State) (p z : ℕ) (t₁ t₂ : State) → E ≡ atRisk x (s .mask) → q ≡ unitsOf s / N → p ≡ unitsOf s % N → z ≡ size E
-      → t₁ ≡ missed x s (s .mask) ((N - z) * q) → t₂ ≡ missed x s 0 p
+  pub miss-put : (n m₁ m₂ r : ℕ) (T T₁ T₂ T₃ : List State) (p z D : ℕ) (t₁ t₂ : State) → E ≡ atRisk x (s .mask) → q ≡ unitsOf s / N → p ≡ unitsOf s % N → z ≡ size E → D ≡ restOf (s .mask) E
+      → t₁ ≡ missed x s (s .mask) ((N - z) * q) → t₂ ≡ missed x s D p
       → Added lostAll n m₁ T T₁ → Added (t₁ ∷ []) m₁ m₂ T₁ T₂ → Added (t₂ ∷ []) m₂ r T₂ T₃ → Added (miss N x s) n r T T₃
   unfolding miss
-  miss-put n m₁ m₂ r T T₁ T₂ T₃ p z t₁ t₂ ee eq ep ez e₁ e₂ a b c =
+  miss-put n m₁ m₂ r T T₁ T₂ T₃ p z D t₁ t₂ ee eq ep ez ed e₁ e₂ a b c =
       subst (λ (S : List State). Added S n r T T₃) is
       (added-then (lostAll ++ (t₁ ∷ [])) n m₂ T T₂ (added-then lostAll n m₁ T T₁ a (t₁ ∷ []) m₂ T₂ b) (t₂ ∷ []) r T₃ c)
     where
       is : lostAll ++ (t₁ ∷ []) ++ (t₂ ∷ []) ≡ miss N x s
-      is = append-snoc lostAll t₁ (t₂ ∷ []) ∙ rw (e₁, e₂, ep, ez, eq, ee)
+      is = append-snoc lostAll t₁ (t₂ ∷ []) ∙ rw (e₁, e₂, ep, ez, ed, eq, ee)
 
 -- ---- a hit or a miss
 
@@ -172,9 +172,13 @@ module _ (N : ℕ) (x : Target) (s : State) where
   unfolding leftOver
   over-none h = rw h
 
-  pub over-rest : hits x (s .mask) ≡ false → (p : ℕ) → p ≡ unitsOf s % N → p ≡ leftOver N x s
+  pub over-safe : hits x (s .mask) ≡ false → (E : ℕ) → E ≡ atRisk x (s .mask) → E ≡ 0 → 0 ≡ leftOver N x s
   unfolding leftOver
-  over-rest h p e = rw h e
+  over-safe h E e z = rw (h, eq-eqb (atRisk x (s .mask)) 0 (sym e ∙ z))
+
+  pub over-rest : hits x (s .mask) ≡ false → (E : ℕ) → E ≡ atRisk x (s .mask) → (E ≡ 0 → ⊥) → (p : ℕ) → p ≡ unitsOf s % N → p ≡ leftOver N x s
+  unfolding leftOver
+  over-rest h E e z p q = rw (h, ne-eqb (atRisk x (s .mask)) 0 (λ n. z (e ∙ n))) q
 
 -- ---- the states that follow those of a table, one state after the other
 

@@ -19,7 +19,7 @@ ghost use lib.ListN.{length, take, drop};
 ghost use Rattle.rules.specs.Units.{whole, more};
 ghost use Rattle.rules.specs.Contents.{without, held};
 ghost use Rattle.rules.specs.Table.{rising, add as addOf};
-ghost use Rattle.rules.specs.Step.{missed as missedOf, miss as missOf, successors, leftOver, access, accessAside};
+ghost use Rattle.rules.specs.Step.{missed as missedOf, restOf, miss as missOf, successors, leftOver, access, accessAside};
 ghost use Rattle.rules.specs.Shape.{Every, Listed};
 ghost use Rattle.words.specs.Tables.{tableOf};
 ghost use Rattle.estimate.specs.Placing.{Added};
@@ -79,7 +79,18 @@ pub(crate) fn lose_each(
     m
 }
 
-// `s` does not hold the block: each way of its set has an equal part of the units, and what is left over goes to the block alone.
+// What the units that are left over keep of `mask`: nothing where a block of `risk` can be lost, and all of it where none can.
+pub(crate) fn rest_of(mask: u64, risk: u64) -> u64
+    ensures { λ r. ⌜ r ≡ restOf mask risk ⌝ }
+{
+    if risk == 0 {
+        return mask;
+    }
+    0
+}
+
+// `s` does not hold the block: each way of its set has an equal part of the units, and what is left over goes to the block alone, or with
+// the others where no block can be lost.
 pub(crate) fn miss(words: &mut [u64], n: usize, s: State, x: Target, ways: u64) -> usize
     requires { ⌜ Listed 16 (x .place) × Workable ways x s × (ways ≤ 16) × ((n + 17) * 3 ≤ length (now words)) × (rising (take n (tableOf (now words))) ≡ true) ⌝ }
     ensures { λ r. ⌜ Added (missOf ways x s) n r (tableOf (now (words .entry))) (tableOf (now (words .exit))) ⌝ }
@@ -92,7 +103,7 @@ pub(crate) fn miss(words: &mut [u64], n: usize, s: State, x: Target, ways: u64) 
     let lost = lose_each(words, n, s, x, risk, part);
     let others = Units((ways - size_of(risk)) * part.0);
     let kept = add(words, lost, missed(s, x, s.mask, others));
-    add(words, kept, missed(s, x, 0, rest))
+    add(words, kept, missed(s, x, rest_of(s.mask, risk), rest))
 }
 
 // The states that follow `s`: a hit leaves it as it is.
@@ -115,13 +126,16 @@ pub(crate) fn follow_to_scratch(work: &mut [u64], n: usize, s: State, x: Target,
     follow(&mut work[12288..], n, s, x, ways)
 }
 
-// What of `s` is set aside.
+// What of `s` is set aside: nothing at a hit, and nothing where no block can be lost.
 pub(crate) fn left_over(s: State, x: Target, ways: u64) -> Units
     requires { ⌜ Listed 16 (x .place) ⌝ }
     ensures { λ r. ⌜ r .0 ≡ leftOver ways x s ⌝ }
 {
     let place = x.place;
     if has_block(s.mask, x.again, place) {
+        return Units(0);
+    }
+    if at_risk(s.mask, x) == 0 {
         return Units(0);
     }
     let u = s.units;

@@ -1,11 +1,12 @@
 -- What an access does to the worth of a table, from the one equation for it: nothing is lost to a weight that rises, since the units
 -- that are left over go where they are worth most; no more is added than those units; and where there are none, nothing changes.
 use mathlib.Core.Path.{_≡_, refl, ap}
-use mathlib.Core.Bool.{Bool, true, false, cond}
+use mathlib.Core.Bool.{Bool, true, false, cond, _||_}
 use mathlib.Core.List.{List, [], _∷_}
 use Prim.Native.Nat.{ℕ, suc, _+_, _*_, _%_, _≤_, _<_}
 use native.Mathlib.Nat.{mul-le-mul-left}
 use native.Mathlib.Omega.{arith}
+use lib.Dec.{eqb}
 use Rattle.basics.specs.Sums.{sumOver}
 use Rattle.rules.specs.declared.Target.{Target}
 use Rattle.rules.specs.declared.State.{State}
@@ -31,14 +32,15 @@ module _ (N Z : ℕ) (ts : List ℕ) (M : ℕ) (x : Target) (aim : Aimed Z ts x)
   access-low rises = omega (arith, equation, all T shaped)
     where
       one : (s : State) → Shaped N Z ts M s → leftOver N x s * aheadOf N x f s ≤ N * (leftOver N x s * alone N x f s)
-      one s l = go (hits x (s .mask))
+      one s l = go (hits x (s .mask)) (eqb (atRisk x (s .mask)) 0)
         where
           S : ℕ
           S = overWays N (s .mask) (atRisk x (s .mask)) (λ D. f (with D (x .place)) (suc (s .misses)))
 
-          go : (a : Bool) → cond a 0 (unitsOf s % N) * cond a (N * f (s .mask) (s .misses)) S ≤ N * (cond a 0 (unitsOf s % N) * alone N x f s)
-          go true = omega arith
-          go false = omega (arith, mul-le-mul-left (unitsOf s % N) (alone-most N Z ts x aim (s .mask) (s .misses) f rises (l .0 .small)))
+          go : (a z : Bool) → cond (a || z) 0 (unitsOf s % N) * cond a (N * f (s .mask) (s .misses)) S ≤ N * (cond (a || z) 0 (unitsOf s % N) * alone N x f s)
+          go true z = omega arith
+          go false true = omega arith
+          go false false = omega (arith, mul-le-mul-left (unitsOf s % N) (alone-most N Z ts x aim (s .mask) (s .misses) f rises (l .0 .small)))
 
       all : (T : List State) → Every (Shaped N Z ts M) T
           → sumOver (λ s. leftOver N x s * aheadOf N x f s) T ≤ N * sumOver (λ s. leftOver N x s * alone N x f s) T

@@ -10,11 +10,11 @@ use native.Mathlib.Decide.{ℕ-discrete}
 use native.Mathlib.Omega.{arith}
 use lib.Dec.{eqb}
 use lib.ListN.{length, getD}
-use borrow.Author.Tests.{eqb-true, eq-eqb}
+use borrow.Author.Tests.{eqb-true, eq-eqb, ne-eqb}
 use Rattle.basics.proofs.Bools.{both, same-test}
 use Rattle.rules.specs.Contents.{places, Place, Target, Last, at, bit, with, without, shared, held, size, maskOf, ofSet, targetOf, atRisk}
 use Rattle.rules.specs.Table.{State, unitsOf}
-use Rattle.rules.specs.Step.{missed, miss}
+use Rattle.rules.specs.Step.{missed, restOf, miss}
 use Rattle.rules.specs.Shape.{Aimed, Room}
 use Rattle.rules.proofs.Bits.{bit-low, bit-rest, bit-and, bit-zero, bit-below, bits-same}
 use Rattle.rules.proofs.Contents.{Sub, with-keeps, with-cases, with-new, without-keeps, without-gone, sub-without, size-zero, size-sub, size-with, size-moved, sub-shared-left, sub-shared-right, shared-lt}
@@ -185,7 +185,8 @@ one-set-risk ts l b C h =
     (λ i k. same-test _ _ (sub-shared-left C _ i)
     (λ e. both-shared C _ i e (bit-set 1 ts (b % 1) i k ∙ eq-eqb _ _ (mod-one (getD ts i 0) ∙ sym (mod-one b)))))
 
--- so that a miss is document 01's: each held block is lost with q units, and the rest of the N ways lose none
+-- so that a miss is document 01's: each held block is lost with q units, the rest of the N ways lose none, and the units that are left
+-- over go to the accessed block only (where nothing is held, that is with the others)
 pub one-set-miss : (N : ℕ) (ts : List ℕ) (l : Last) (b : ℕ) (s : State) → s .mask < 2 ^ length ts
     → miss N (targetOf 1 ts l b) s
     ≡ map (λ e. missed (targetOf 1 ts l b) s (without (s .mask) e) (unitsOf s / N)) (held (s .mask))
@@ -193,4 +194,8 @@ pub one-set-miss : (N : ℕ) (ts : List ℕ) (l : Last) (b : ℕ) (s : State) �
     ∷ missed (targetOf 1 ts l b) s 0 (unitsOf s % N)
     ∷ []
 unfolding miss
-one-set-miss N ts l b s h = rw (one-set-risk ts l b (s .mask) h)
+one-set-miss N ts l b s h = rw (one-set-risk ts l b (s .mask) h, none (s .mask))
+  where
+    none : (C : ℕ) → restOf C C ≡ 0
+    none zero = refl
+    none (suc C) = rw (ne-eqb (suc C) 0 (λ e. omega arith))

@@ -3,7 +3,7 @@
 -- most N + 1 states listed for each before adding.
 use mathlib.Core.Path.{_≡_, refl, ap, ap₂, _∙_}
 use mathlib.Core.Logic.{_≢_}
-use mathlib.Core.Bool.{Bool, true, false, cond}
+use mathlib.Core.Bool.{Bool, true, false, cond, _||_}
 use mathlib.Core.List.{List, [], _∷_, _++_, map, flatMap}
 use Prim.Native.Nat.{ℕ, suc, _+_, _-_, _*_, _/_, _%_, _^_, _≤_, _<_}
 use native.Mathlib.Nat.{le-trans, le-step, suc-le-suc-iff, pos-of-ne-zero, div-add-mod, eq-of-mul-eq-mul-left}
@@ -12,17 +12,18 @@ use native.Mathlib.Omega.{arith}
 use lib.Dec.{eqb}
 use lib.ListN.{length, length-map}
 use lib.Pow.{pow-pos}
-use borrow.Author.Tests.{eq-eqb}
+use borrow.Author.Tests.{eqb-true, eq-eqb}
 use Rattle.basics.specs.Sums.{sumOver}
-use Rattle.basics.proofs.Sums.{sum-append, sum-map, sum-times, sum-each}
+use Rattle.basics.proofs.Sums.{sum-append, sum-map, sum-times, sum-each, on-none}
 use Rattle.rules.specs.Contents.{places, Target, bit, hits, with, without, held, size, atRisk}
 use Rattle.rules.specs.Units.{whole}
 use Rattle.rules.specs.Table.{State, unitsOf, plus, present, total}
-use Rattle.rules.specs.Step.{missed, miss, successors, leftOver, access}
+use Rattle.rules.specs.Step.{missed, restOf, miss, successors, leftOver, access}
 use Rattle.rules.specs.Shape.{Every, Aimed, Room, Shaped}
 use Rattle.rules.proofs.Splitting.{more-least}
 use Rattle.rules.proofs.Lists.{every-append, every-map, every-flatMap}
-use Rattle.rules.proofs.Contents.{every-held, with-lt, without-lt}
+use Rattle.rules.proofs.Bits.{bit-zero}
+use Rattle.rules.proofs.Contents.{sum-held, size-zero, every-held, with-lt, without-lt}
 use Rattle.rules.proofs.Sets.{risk-sub, room-joined, room-moved, room-alone}
 use Rattle.rules.proofs.Table.{length-present-append, length-present, every-add, worthOf, worth, worth-add, total-add, one, worth-total}
 
@@ -36,6 +37,15 @@ overWays N C E g = sumOver (λ e. g (without C e)) (held E) + (N - size E) * g C
 abbrev pub ahead : ℕ → Target → (ℕ → ℕ → ℕ) → ℕ → ℕ → ℕ
 ahead N x f C m = cond (hits x C) (N * f C m) (overWays N C (atRisk x C) (λ D. f (with D (x .place)) (suc m)))
 
+-- where no block can go, every way leaves C
+pub overWays-none : (N C : ℕ) (g : ℕ → ℕ) → overWays N C 0 g ≡ N * g C
+overWays-none N C g =
+    ap₂ (λ (a b : ℕ). a + (N - b) * g C) (sum-held (λ e. g (without C e)) 0 ∙ on-none places (bit 0) (λ e. g (without C e)) (λ i l. bit-zero i)) size-zero
+    ∙ ring (N - 0) (omega arith)
+  where
+    ring : (d : ℕ) → d ≡ N → 0 + d * g C ≡ N * g C
+    ring d e = rw e (omega arith)
+
 module _ (N : ℕ) (x : Target) (f : ℕ → ℕ → ℕ) where
   -- ahead of a state, and of the units that are left over
   abbrev pub aheadOf : State → ℕ
@@ -45,12 +55,13 @@ module _ (N : ℕ) (x : Target) (f : ℕ → ℕ → ℕ) where
   alone s = f (with 0 (x .place)) (suc (s .misses))
 
   worth-miss : (s : State) → worth f (miss N x s)
-      ≡ overWays N (s .mask) (atRisk x (s .mask)) (λ D. f (with D (x .place)) (suc (s .misses))) * (unitsOf s / N) + unitsOf s % N * alone s
+      ≡ overWays N (s .mask) (atRisk x (s .mask)) (λ D. f (with D (x .place)) (suc (s .misses))) * (unitsOf s / N)
+      + unitsOf s % N * f (with (restOf (s .mask) (atRisk x (s .mask))) (x .place)) (suc (s .misses))
   unfolding miss
   worth-miss s =
       sum-append (worthOf f) (map (λ e. missed x s (without C e) q) (held E)) _
       ∙ ap₂ _+_ (sum-map (worthOf f) (λ e. missed x s (without C e) q) (held E) ∙ sum-times q (λ e. g (without C e)) (held E)) refl
-      ∙ ring (N - size E) (sumOver (λ e. g (without C e)) (held E)) (g C) (unitsOf s % N * alone s)
+      ∙ ring (N - size E) (sumOver (λ e. g (without C e)) (held E)) (g C) (unitsOf s % N * g (restOf C E))
     where
       C : ℕ
       C = s .mask
@@ -70,24 +81,48 @@ module _ (N : ℕ) (x : Target) (f : ℕ → ℕ → ℕ) where
   worth-successors : (s : State)
       → N * worth f (successors N x s) + leftOver N x s * aheadOf s ≡ unitsOf s * aheadOf s + N * (leftOver N x s * alone s)
   unfolding successors leftOver
-  worth-successors s = go (hits x (s .mask))
+  worth-successors s = go (hits x C) (eqb E 0) refl
     where
+      C : ℕ
+      C = s .mask
+
+      E : ℕ
+      E = atRisk x C
+
+      q : ℕ
+      q = unitsOf s / N
+
+      r : ℕ
+      r = unitsOf s % N
+
+      g : ℕ → ℕ
+      g D = f (with D (x .place)) (suc (s .misses))
+
       S : ℕ
-      S = overWays N (s .mask) (atRisk x (s .mask)) (λ D. f (with D (x .place)) (suc (s .misses)))
+      S = overWays N C E g
 
       y : ℕ
-      y = f (s .mask) (s .misses)
+      y = f C (s .misses)
 
-      ring : (q r R : ℕ) → N * (S * q + r * R) + r * S ≡ (N * q + r) * S + N * (r * R)
-      ring q r R = omega arith
+      all : N * q + r ≡ unitsOf s
+      all = div-add-mod (unitsOf s) N
 
-      go : (a : Bool) → N * worth f (cond a (s ∷ []) (miss N x s)) + cond a 0 (unitsOf s % N) * cond a (N * y) S
-          ≡ unitsOf s * cond a (N * y) S + N * (cond a 0 (unitsOf s % N) * alone s)
-      go true = omega arith
-      go false =
-          rw (worth-miss s)
-          (ring (unitsOf s / N) (unitsOf s % N) (alone s)
-          ∙ ap (λ (u : ℕ). u * S + N * (unitsOf s % N * alone s)) (div-add-mod (unitsOf s) N))
+      -- where no block can be lost, each way gives the same
+      even : (S G : ℕ) → S ≡ N * G → N * (S * q + r * G) + 0 * S ≡ (N * q + r) * S + N * (0 * alone s)
+      even S G e = rw e (omega arith)
+
+      ring : (R : ℕ) → N * (S * q + r * R) + r * S ≡ (N * q + r) * S + N * (r * R)
+      ring R = omega arith
+
+      go : (a z : Bool) → eqb E 0 ≡ z
+          → N * worth f (cond a (s ∷ []) (miss N x s)) + cond (a || z) 0 r * cond a (N * y) S
+          ≡ unitsOf s * cond a (N * y) S + N * (cond (a || z) 0 r * alone s)
+      go true z e = omega arith
+      go false true e =
+          rw (worth-miss s, e)
+          (even S (g C) (ap (λ (A : ℕ). overWays N C A g) (eqb-true E 0 e) ∙ overWays-none N C g)
+          ∙ ap (λ (u : ℕ). u * S + N * (0 * alone s)) all)
+      go false false e = rw (worth-miss s, e) (ring (alone s) ∙ ap (λ (u : ℕ). u * S + N * (r * alone s)) all)
 
   -- all states' successors, before adding
   worth-all : (T : List State)
@@ -210,10 +245,16 @@ module _ (N Z : ℕ) (ts : List ℕ) (M : ℕ) (x : Target) (some : 0 < N) (aim 
       kept : After (missed x s C ((N - size E) * q))
       kept n = missed-shaped s C _ (h .0 .few) (h .0 .masked) (room-joined N Z ts x aim C (h .0 .small) (left E q n)) n
 
-      rest : After (missed x s 0 (unitsOf s % N))
-      rest n = missed-shaped s 0 _ (h .0 .few) (pow-pos (length ts)) (room-alone N Z ts x aim some) n
+      rest : After (missed x s (restOf C E) (unitsOf s % N))
+      rest n = where-to (eqb E 0) refl
+        where
+          where-to : (z : Bool) → eqb E 0 ≡ z → Shaped N Z ts (suc M) (missed x s (cond z C 0) (unitsOf s % N))
+          where-to true e =
+              missed-shaped s C _ (h .0 .few) (h .0 .masked)
+              (room-joined N Z ts x aim C (h .0 .small) (omega (arith, ap size (eqb-true E 0 e), size-zero))) n
+          where-to false e = missed-shaped s 0 _ (h .0 .few) (pow-pos (length ts)) (room-alone N Z ts x aim some) n
 
-      go : (a : Bool) → Every After (cond a (s ∷ []) (map (λ e. missed x s (without C e) q) (held E) ++ missed x s C ((N - size E) * q) ∷ missed x s 0 (unitsOf s % N) ∷ []))
+      go : (a : Bool) → Every After (cond a (s ∷ []) (map (λ e. missed x s (without C e) q) (held E) ++ missed x s C ((N - size E) * q) ∷ missed x s (restOf C E) (unitsOf s % N) ∷ []))
       go true = (λ n. (record { masked = h .0 .masked; few = le-step (h .0 .few); small = h .0 .small }, h .1), tt)
       go false = every-append After (map (λ e. missed x s (without C e) q) (held E)) _ lost (kept, (rest, tt))
 
@@ -246,7 +287,7 @@ module _ (N : ℕ) (x : Target) where
       kept = missed x s C ((N - size E) * q)
 
       rest : State
-      rest = missed x s 0 (unitsOf s % N)
+      rest = missed x s (restOf C E) (unitsOf s % N)
 
       -- where all ways hold a block of E, no units go to contents that lose nothing
       gone : (d : ℕ) → d ≡ 0 → eqb (d * q) 0 ≡ true

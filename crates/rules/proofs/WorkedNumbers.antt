@@ -58,8 +58,8 @@ cases =
     5 0
     -- 3: one way
     ∷ comes (inputOf (cache 1 1) 64 abc (4 ∷ []) (a ∷ a ∷ b ∷ a ∷ []) []) (state 1 3 whole ∷ []) 1 0
-    -- 4: three ways
-    ∷ comes (inputOf (cache 1 3) 64 abc (2 ∷ []) (a ∷ b ∷ []) []) (state 2 2 93824992236886 ∷ state 3 2 187649984473770 ∷ []) 2 2
+    -- 4, as request 4/13 has it: three ways
+    ∷ comes (inputOf (cache 1 3) 64 abc (2 ∷ []) (a ∷ b ∷ []) []) (state 2 2 93824992236886 ∷ state 3 2 187649984473770 ∷ []) 2 1
     -- 5: one state
     ∷ comes (inputOf (cache 1 2) 1 abc (5 ∷ []) (a ∷ b ∷ c ∷ b ∷ a ∷ []) []) (state 1 5 whole ∷ []) 1 whole
     -- 6: two states
@@ -78,6 +78,8 @@ cases =
     ∷ comes (inputOf (cache 1 2) 64 [] (1 ∷ 1 ∷ 0 ∷ 1 ∷ []) (u ∷ v ∷ u ∷ []) (0 ∷ 1 ∷ 0 ∷ 2 ∷ 1 ∷ 3 ∷ 2 ∷ 3 ∷ [])) (state 0 3 whole ∷ []) 1 0
     -- request 1/13: two sets, a and c in one, b in the other
     ∷ comes (inputOf (cache 2 2) 64 abc (3 ∷ []) (a ∷ b ∷ c ∷ []) []) (state 6 3 (2 ^ 47) ∷ state 7 3 (2 ^ 47) ∷ []) 2 0
+    -- requests 1/13 and 4/13: three ways in two sets, where b's set holds nothing yet
+    ∷ comes (inputOf (cache 2 3) 64 abc (2 ∷ []) (a ∷ b ∷ []) []) (state 3 2 whole ∷ []) 1 0
     ∷ []
 
 pub each-comes-out : map workedOut cases ≡ cases

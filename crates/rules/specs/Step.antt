@@ -1,7 +1,8 @@
--- One access: document 01, section 3; document 02, requests 1/13 and 3/13. N ways in a set; x is what the access is after.
-use mathlib.Core.Bool.{cond}
+-- One access: document 01, section 3; document 02, requests 1/13, 3/13 and 4/13. N ways in a set; x is what the access is after.
+use mathlib.Core.Bool.{cond, _||_}
 use mathlib.Core.List.{List, [], _∷_, _++_, map, flatMap}
 use Prim.Native.Nat.{ℕ, suc, _-_, _*_, _/_, _%_}
+use lib.Dec.{eqb}
 use Rattle.basics.specs.Sums.{sumOver}
 use Rattle.rules.specs.Contents.{Target, hits, with, without, held, size, atRisk}
 use Rattle.rules.specs.Table.{State, state, unitsOf, add}
@@ -10,8 +11,13 @@ use Rattle.rules.specs.Table.{State, state, unitsOf, add}
 abbrev pub missed : Target → State → ℕ → ℕ → State
 missed x s C u = state (with C (x .place)) (suc (s .misses)) u
 
+-- what the units that are left over keep of C, where a block of E can be lost: nothing; or all, where no block can be lost and all ways
+-- lead to one successor
+abbrev pub restOf : ℕ → ℕ → ℕ
+restOf C E = cond (eqb E 0) C 0
+
 -- s does not hold the block. With q units for each way of its set: a way that holds e of C loses e; the other ways lose nothing of C;
--- the r units that are left over go to the state that holds the accessed block only
+-- the r units that are left over go to the state that holds the accessed block only, or where no block can be lost with the others
 unfoldable pub miss : ℕ → Target → State → List State
 miss N x s =
     let C = s .mask in
@@ -19,16 +25,17 @@ miss N x s =
     let q = unitsOf s / N in
     map (λ e. missed x s (without C e) q) (held E)
     ++ missed x s C ((N - size E) * q)
-    ∷ missed x s 0 (unitsOf s % N)
+    ∷ missed x s (restOf C E) (unitsOf s % N)
     ∷ []
 
 -- the states that follow s: a hit leaves it as it is
 unfoldable pub successors : ℕ → Target → State → List State
 successors N x s = cond (hits x (s .mask)) (s ∷ []) (miss N x s)
 
--- what of s is set aside: the units that are left over at a miss, even where they land in a state that was reached anyway
+-- what of s is set aside: the units that are left over at a miss that can lose a block, even where they land in a state that was
+-- reached anyway
 unfoldable pub leftOver : ℕ → Target → State → ℕ
-leftOver N x s = cond (hits x (s .mask)) 0 (unitsOf s % N)
+leftOver N x s = cond (hits x (s .mask) || eqb (atRisk x (s .mask)) 0) 0 (unitsOf s % N)
 
 -- the table after the access, before any fold
 unfoldable pub access : ℕ → Target → List State → List State

@@ -100,9 +100,10 @@ fn case_3(report: Report) -> Report {
     )
 }
 
+// As document 02, request 4/13, has it.
 fn case_4(report: Report) -> Report {
     let states: [u64; 6] = [2, 2, 93824992236886, 3, 2, 187649984473770];
-    straight(b"case 4:", 3, 64, &[2], &[10, 11], &states, 2, report)
+    straight(b"case 4:", 3, 64, &[2], &[10, 11], &states, 1, report)
 }
 
 fn case_5(report: Report) -> Report {

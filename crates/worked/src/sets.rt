@@ -80,16 +80,36 @@ fn untracked(report: Report) -> Report {
     )
 }
 
-// Three ways divide no power of two: what is left over at b goes to b alone, though nothing of its set was held.
+// Three ways divide no power of two. Where the set of b or u holds nothing, nothing is left over, whatever the other set holds (document 02,
+// request 4/13); where that of c holds a, one unit is, though the other set holds nothing.
 fn left_over(report: Report) -> Report {
-    straight(
+    let cache = Cache { sets: 2, ways: 3 };
+    let other = straight(
         b"2 sets of 3, a b:",
-        Cache { sets: 2, ways: 3 },
+        cache,
         &[2],
         &[10, 11],
-        &[2, 2, 1, 3, 2, WHOLE - 1],
-        2,
+        &[3, 2, WHOLE],
+        0,
         report,
+    );
+    let untracked = straight(
+        b"2 sets of 3, a u:",
+        cache,
+        &[2],
+        &[10, 13],
+        &[1, 2, WHOLE],
+        0,
+        other,
+    );
+    straight(
+        b"2 sets of 3, a c:",
+        cache,
+        &[2],
+        &[10, 12],
+        &[4, 2, 93824992236886, 5, 2, 187649984473770],
+        1,
+        untracked,
     )
 }
 

@@ -1,7 +1,7 @@
--- `left_over` is the rest of the division where the block is not held, and 0 where it is.
+-- `left_over` is the rest of the division where the block is not held and one can be lost, and 0 otherwise.
 use mathlib.Core.Path.{sym, _∙_}
 use Rattle.rules.proofs.Splitting.{split-rest}
-use Rattle.estimate.proofs.Following.{over-none, over-rest}
+use Rattle.estimate.proofs.Following.{over-none, over-safe, over-rest}
 use borrow.Author.Needs.{needs}
 use Rattle.estimate.proofs.access.left_over.Statement.{statement}
 use Rattle.estimate.proofs.access.left_over.Tie as tie
@@ -10,7 +10,12 @@ returns : tie.Need-returns
 returns c = over-none _ _ _ (sym (c .before .has-block .ensures) ∙ c .if1 .taken)
 
 returns-2 : tie.Need-returns-2
-returns-2 c = over-rest _ _ _ (sym (c .before .before .before .before .has-block .ensures) ∙ c .before .before .before .if1 .left) _ (split-rest _ _ _ (c .before .split .ensures))
+returns-2 c = over-safe _ _ _ (sym (c .before .before .before .has-block .ensures) ∙ c .before .before .if1 .left) _ (c .before .at-risk .ensures) (c .if2 .taken)
+
+returns-3 : tie.Need-returns-3
+returns-3 c =
+    over-rest _ _ _ (sym (c .before .before .before .before .before .before .has-block .ensures) ∙ c .before .before .before .before .before .if1 .left) _ (c .before .before .before .before .at-risk .ensures) (c .before .before .before .if2 .left) _
+    (split-rest _ _ _ (c .before .split .ensures))
 
 pub left-over-spec : {M : Type 1} → statement M
 left-over-spec =
@@ -19,4 +24,6 @@ left-over-spec =
     (λ c κs. search needs)
     returns
     (λ c κs. search needs)
-    returns-2)
+    returns-2
+    (λ c κs. search needs)
+    returns-3)

@@ -35,21 +35,21 @@ add-requires c κs =
 
 add-requires-2 : tie.Need-add-requires-2
 add-requires-2 c κs =
-    let b = c .before .before .before .before .before .before .before .before .before .before .before .before .before .before .before .before .before .before .before in
+    let b = c .before .before .before .before .before .before .before .before .before .before .before .before .before .before .before .before .before .before .before .before in
     let a = b .args in
-    let lost = c .before .before .before .before .before .before .before .before .before .before .before .lose-each in
-    let kept = c .before .before .before .before .add in
-    let more = kept-count (a .x) (a .s) (c .before .before .before .before .before .before .before .before .before .before .before .before .before .at-risk .result) (a .ways) _ (a .n) (tableOf (now (a .words))) (fits-table (now (a .words)) (a .n) (omega (arith, b .pre .3))) _ _ _ _ _ _
-    (few (c .before .before .before .before .before .before .before .before .before .before .before .before .before)) (c .before .before .before .before .before .before .before .before .size-of .ensures) (c .before .before .before .before .before .missed .ensures) (lost .ensures) (kept .ensures) in
+    let lost = c .before .before .before .before .before .before .before .before .before .before .before .before .lose-each in
+    let kept = c .before .before .before .before .before .add in
+    let more = kept-count (a .x) (a .s) (c .before .before .before .before .before .before .before .before .before .before .before .before .before .before .at-risk .result) (a .ways) _ (a .n) (tableOf (now (a .words))) (fits-table (now (a .words)) (a .n) (omega (arith, b .pre .3))) _ _ _ _ _ _
+    (few (c .before .before .before .before .before .before .before .before .before .before .before .before .before .before)) (c .before .before .before .before .before .before .before .before .before .size-of .ensures) (c .before .before .before .before .before .before .missed .ensures) (lost .ensures) (kept .ensures) in
     (omega (arith, more, b .pre .2, b .pre .3, lost .kept .0, kept .kept .0), added-rising _ _ _ _ _ (kept .ensures) (added-rising _ _ _ _ _ (lost .ensures) (b .pre .4)))
 
 returns : tie.Need-returns
 returns c =
-    let a = c .before .before .before .before .before .before .before .before .before .before .before .before .before .before .before .before .before .before .before .before .before .before .args in
-    let p = c .before .before .before .before .before .before .before .before .before .before .before .before .before .before .before .before .before .before .before .split in
-    miss-put (a .x) (a .s) (c .before .before .before .before .before .before .before .before .before .before .before .before .before .before .before .before .at-risk .result) (a .ways) _ _ _ _ _ _ _ _ _ _ _ _ _ (c .before .before .before .before .before .before .before .before .before .before .before .before .before .before .before .before .at-risk .ensures)
-    (split-part (p .result) (a .s .units) (a .ways) (p .ensures)) (split-rest (p .result) (a .s .units) (a .ways) (p .ensures)) (c .before .before .before .before .before .before .before .before .before .before .before .size-of .ensures)
-    (c .before .before .before .before .before .before .before .before .missed .ensures) (c .before .before .before .missed2 .ensures) (c .before .before .before .before .before .before .before .before .before .before .before .before .before .before .lose-each .ensures) (c .before .before .before .before .before .before .before .add .ensures) (c .before .before .add2 .ensures)
+    let a = c .before .before .before .before .before .before .before .before .before .before .before .before .before .before .before .before .before .before .before .before .before .before .before .args in
+    let p = c .before .before .before .before .before .before .before .before .before .before .before .before .before .before .before .before .before .before .before .before .split in
+    miss-put (a .x) (a .s) (c .before .before .before .before .before .before .before .before .before .before .before .before .before .before .before .before .before .at-risk .result) (a .ways) _ _ _ _ _ _ _ _ _ _ _ _ _ _ (c .before .before .before .before .before .before .before .before .before .before .before .before .before .before .before .before .before .at-risk .ensures)
+    (split-part (p .result) (a .s .units) (a .ways) (p .ensures)) (split-rest (p .result) (a .s .units) (a .ways) (p .ensures)) (c .before .before .before .before .before .before .before .before .before .before .before .before .size-of .ensures)
+    (c .before .before .before .before .rest-of .ensures) (c .before .before .before .before .before .before .before .before .before .missed .ensures) (c .before .before .before .missed2 .ensures) (c .before .before .before .before .before .before .before .before .before .before .before .before .before .before .before .lose-each .ensures) (c .before .before .before .before .before .before .before .before .add .ensures) (c .before .before .add2 .ensures)
 
 pub miss-spec : {M : Type 1} → statement M
 miss-spec =
@@ -63,6 +63,7 @@ miss-spec =
     mul-t18
     (λ c κs. search needs)
     add-requires
+    (λ c κs. search needs)
     (λ c κs. search needs)
     add-requires-2
     (λ c. search needs)
