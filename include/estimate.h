@@ -1,9 +1,11 @@
-/* The estimate of instruction-cache misses, for C: the graph call, the longest path, the questions put to a finished table, and curves as text.
+/* The estimate of instruction-cache misses, for C: the graph call, the longest path, the questions put to a finished table, curves as text, and the trace
+ * recorder's blocks read, judged and written.
  *
- * Every function ends with an answer or a refusal, whatever the numbers are. A refusal writes nothing; the functions for curves write it as a line of text, and leave
- * all other rooms as they were but the room for a text's numbers, which is zero afterwards.
+ * Every function ends with an answer or a refusal, whatever the numbers are. A refusal writes nothing, but that reading a trace says which block is damaged; the
+ * functions for curves write it as a line of text, and leave all other rooms as they were but the room for a text's numbers, which is zero afterwards.
  * A stretch of memory is passed as a pointer and how many elements it has; an empty one may be NULL and 0. A pointer to one value (states, aside, units, budget,
- * largest, longest, cycles) is never NULL, and what is lent for writing overlaps nothing else that is passed: these two things the caller has to see to.
+ * largest, longest, cycles, count, place, blocks) is never NULL, and what is lent for writing overlaps nothing else that is passed: these two things the caller
+ * has to see to.
  *
  * A call keeps no state: nothing is left of it but what it wrote to the memory that it was lent. So the functions are reentrant, and calls may run at the same
  * time, in threads or one interrupting another, as long as what each is lent for writing is lent to it alone. They use no heap, and no memory but what they
@@ -20,7 +22,7 @@
 #include <stdint.h>
 
 /* The version of what is declared here: it rises where a function, a constant or what a call gives changes. */
-#define ESTIMATE_VERSION 1
+#define ESTIMATE_VERSION 2
 
 #ifdef __cplusplus
 extern "C" {
@@ -53,6 +55,12 @@ struct estimate_state {
 #define ESTIMATE_OUTPUT_BYTES 262144
 #define ESTIMATE_CYCLES_OUTPUT_BYTES 3145728
 
+/* A trace is blocks of ESTIMATE_BLOCK_BYTES; a block has at most ESTIMATE_BLOCK_ACCESSES accesses. ESTIMATE_TRACE_BYTES are room for every trace that is
+ * written. */
+#define ESTIMATE_BLOCK_BYTES 512
+#define ESTIMATE_BLOCK_ACCESSES 125
+#define ESTIMATE_TRACE_BYTES 16896
+
 /* The cores in service, numbered from 0: a hit and a miss take (1,8) (1,10) (1,12) (1,20) (2,10) (2,16) (2,24) (2,40) (3,15) (3,30) (3,60) (4,100) cycles. */
 #define ESTIMATE_CORES 12
 
@@ -69,7 +77,10 @@ enum estimate_refusal {
     ESTIMATE_SPREAD_ROOM = 8, /* spread room shorter than the largest misses + 1 */
     ESTIMATE_TEXT = 9,        /* malformed text: only in a curve's text, as `refused 9` */
     ESTIMATE_SETS = 10,       /* a set count other than 1, 2, 4, 8, 16 */
-    ESTIMATE_NO_CORE = 16     /* no such core */
+    ESTIMATE_TRACE_LENGTH = 12, /* the bytes of a trace are no multiple of 512 */
+    ESTIMATE_DAMAGED = 13,    /* a block of a trace is damaged: its check, its zeros, its count or its number is wrong */
+    ESTIMATE_NO_CORE = 16,    /* no such core */
+    ESTIMATE_TRACE_ROOM = 21  /* room for fewer than 125 accesses a block, one place a block, or the blocks to be written */
 };
 
 /* The graph call: a cache of `sets` sets of `ways` ways, in which a block belongs to the set given by its number modulo `sets`; at most `limit` states; the
@@ -155,6 +166,24 @@ size_t estimate_cycles_of_numbers(const uint32_t *numbers, size_t count,
                                   uint64_t *work, size_t work_words,
                                   uint64_t *counts, size_t counts_room,
                                   uint8_t *output, size_t output_bytes);
+
+/* The trace recorder's blocks. Their bytes are, the lowest of each number first: 0 to 3 the block's number, which is its place in the trace, from 0; 4 and 5 how many
+ * accesses it has; from 6 on the accesses, 4 bytes each; zeros up to 509; 510 and 511 the check, the sum over bytes 0 to 509 of (position + 1) times the byte,
+ * modulo 65521. A block that is not so is damaged; any one changed byte makes it so. A refusal writes nothing but `*place`, and that with 13 only. */
+
+/* The accesses of a trace go to the front of `accesses`, which is zero beyond them, and how many they are to `*count`. A block need not be full, and there may be more
+ * than 4,096 accesses. Gives ESTIMATE_DONE, or the first of 12, 21 (`room` is below 125 for each block) and 13 that applies; with 13 the place of the first damaged
+ * block goes to `*place`. */
+uint64_t estimate_trace_read(const uint8_t *trace, size_t bytes, uint32_t *accesses, size_t room, size_t *count, size_t *place);
+
+/* The places of the damaged blocks of a trace, rising, go to the front of `places`, which is zero beyond them, and how many they are to `*count`. Gives ESTIMATE_DONE,
+ * or the first of 12 and 21 (`room` is below 1 for each block) that applies. */
+uint64_t estimate_trace_damaged(const uint8_t *trace, size_t bytes, uint64_t *places, size_t room, size_t *count);
+
+/* The trace of at most 4,096 accesses goes to the front of `trace`, which is zero beyond it, and how many blocks it has to `*blocks`: every block but the last is full,
+ * and no accesses are no block. Gives ESTIMATE_DONE, or the first of 4 and 21 (`bytes` is below 512 for each block) that applies. To read the trace again hand in its
+ * blocks and not the whole room: a block of zeros behind them is damaged by its number. */
+uint64_t estimate_trace_write(const uint32_t *accesses, size_t access_count, uint8_t *trace, size_t bytes, size_t *blocks);
 
 #ifdef __cplusplus
 }

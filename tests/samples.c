@@ -26,6 +26,9 @@ struct call {
 
 static const struct call calls[] = {
     {"graph", answer_graph},
+    {"trace_write", answer_trace_write},
+    {"trace_read", answer_trace_read},
+    {"trace_list", answer_trace_list},
 };
 
 /* ---- What is kept for the call at hand ---- */

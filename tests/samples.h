@@ -60,5 +60,8 @@ bool take_graph(const struct words *words, size_t *taken, struct graph *graph);
 
 /* The kinds of calls. */
 bool answer_graph(const struct words *words);
+bool answer_trace_write(const struct words *words);
+bool answer_trace_read(const struct words *words);
+bool answer_trace_list(const struct words *words);
 
 #endif

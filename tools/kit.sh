@@ -6,8 +6,8 @@ own=$(dirname "$(dirname "$(rt doc)")")/on/$(uname -m)/toolchain
 emulator=$own/bin/qemu-x86_64
 [ -x "$emulator" ] || emulator=
 
-# NAME: the program of that name is started
-start() { ${emulator:+"$emulator"} "$own/lib/ld-linux-x86-64.so.2" --library-path "$own/lib" "$root/target/bin/$1"; }
+# NAME WORDS..: the program of that name is started with these arguments
+start() { ${emulator:+"$emulator"} "$own/lib/ld-linux-x86-64.so.2" --library-path "$own/lib" "$root/target/bin/$1" "${@:2}"; }
 
 # WHAT FILE WORDS..: rt with the words, which make the file; says so where it is made for the first time, and shows what rt says only if it fails
 build() {

@@ -1,6 +1,9 @@
-# What tools/curve and tools/cycles share; sourced by them. A command sets `usage` first, what `--help` prints.
+# What tools/curve, tools/cycles and tools/trace share; sourced by them. A command sets `usage` first, what `--help` prints.
 
-# NUMBER: the rule of that number in words, as document 01, section 5, has them
+# the program's own arguments, which a command may set
+words=()
+
+# NUMBER: the rule of that number in words, as document 01, section 5, and document 02 have them
 rule() {
     case $1 in
     1) echo 'ways outside 1..16' ;;
@@ -10,17 +13,20 @@ rule() {
     5) echo 'nodes outside 1..64, run lengths that do not sum to the accesses, or an edge rule broken: an edge goes backwards or to no node, edges are' \
         'not listed rising by to and then by from, a node but the first has no edge in, or one but the last no edge out' ;;
     9) echo 'malformed text: something else than numbers between spaces and newlines, a number too large, too many of them, one missing or one left over' ;;
+    12) echo 'a trace that is no multiple of 512 bytes' ;;
+    13) echo 'a damaged block at that place: its check, its zeros, its count or its number is wrong' ;;
+    21) echo 'more than 1,024 blocks' ;;
     esac
 }
 
 # NAME FILE: the program on standard input; what it writes goes on to standard output, and a refusal to standard error as well, in words
 answer() {
-    start "$1" >"$written"
+    start "$1" ${words[@]+"${words[@]}"} >"$written"
     cat "$written"
-    local word number
-    read -r word number _ <"$written"
+    local word number place
+    read -r word number place <"$written"
     [ "$word" = refused ] || return 0
-    echo "${2:+$2: }refused $number: $(rule "$number")" >&2
+    echo "${2:+$2: }refused $number${place:+ $place}: $(rule "$number")" >&2
     refused=1
 }
 

@@ -6,9 +6,12 @@ use Rattle.rules.specs.declared.Count.{Count}
 use Rattle.rules.specs.declared.Outcome.{Outcome}
 use Rattle.rules.specs.Questions.{SpreadAnswer}
 use Rattle.estimate.specs.Call.{After}
+use Rattle.recorder.specs.declared.Counted.{Counted}
+use Rattle.recorder.specs.declared.Reading.{Reading}
+use Rattle.recorder.specs.Calls.{ReadLeft, CountLeft}
 use Rattle.text.specs.declared.Written.{Written}
 use Rattle.text.specs.Rooms.{Rooms, NumbersWritten, TextWritten}
-use Rattle.estimate_c.specs.Given.{ValueGiven, outcomeGiven, graphGiven, countGiven, spreadGiven, bytesOf, numbersGiven, textGiven}
+use Rattle.estimate_c.specs.Given.{ValueGiven, outcomeGiven, graphGiven, countGiven, spreadGiven, readingGiven, readGiven, countedGiven, bytesOf, numbersGiven, textGiven}
 
 pub graph-given : {o p : Outcome} {result work : List ℕ} (a : After) (states aside : ℕ)
     → o ≡ p
@@ -29,6 +32,20 @@ pub spread-given : {g : ValueGiven} {o : Count} {room : List ℕ} {a : SpreadAns
     → record { answer = o; room = room } ≡ a
     → record { answer = g; room = room } ≡ spreadGiven a value
 spread-given {room = room} value said leaves = ap (λ h. record { answer = h; room = room }) said ∙ ap (λ b. spreadGiven b value) leaves
+
+pub read-given : {o p : Reading} {room : List ℕ} (a : ReadLeft) (count place : ℕ)
+    → o ≡ p
+    → record { answer = o; room = room } ≡ a
+    → readingGiven p count place room ≡ readGiven a count place
+read-given {room = room} a count place told leaves =
+    ap (λ q. readingGiven q count place room) (sym told) ∙ ap (λ b. readGiven b count place) leaves
+
+pub counted-given : {o p : Counted} {room : List ℕ} (a : CountLeft) (value : ℕ)
+    → o ≡ p
+    → record { answer = o; room = room } ≡ a
+    → countedGiven (record { answer = p; room = room }) value ≡ countedGiven a value
+counted-given {room = room} a value told leaves =
+    ap (λ q. countedGiven (record { answer = q; room = room }) value) (sym told) ∙ ap (λ b. countedGiven b value) leaves
 
 -- a text has n bytes, where the answer of its call says so
 pub numbers-given : {o : Written} {rooms : Rooms} (a : NumbersWritten) (n : ℕ)

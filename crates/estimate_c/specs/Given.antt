@@ -15,6 +15,11 @@ use Rattle.rules.specs.declared.Time.the-variants.{Cycles, Refused as RefusedTi
 use Rattle.rules.specs.Answers.{numberOf}
 use Rattle.rules.specs.Questions.{SpreadAnswer}
 use Rattle.estimate.specs.Call.{After}
+use Rattle.recorder.specs.declared.Reading.{Reading}
+use Rattle.recorder.specs.declared.Reading.the-variants.{Accesses as AccessesRead, Damaged, Refused as RefusedReading}
+use Rattle.recorder.specs.declared.Counted.{Counted}
+use Rattle.recorder.specs.declared.Counted.the-variants.{Blocks, Refused as RefusedBlocks}
+use Rattle.recorder.specs.Calls.{readingSays, ReadLeft, CountLeft}
 use Rattle.text.specs.declared.Written.{Written}
 use Rattle.text.specs.declared.Written.the-variants.{Bytes, NoRoom}
 use Rattle.text.specs.Rooms.{Rooms, NumbersWritten, TextWritten}
@@ -66,14 +71,42 @@ abbrev pub lengthGiven : Length → ℕ → ValueGiven
 lengthGiven (Accesses n) value = record { number = 0; value = n }
 lengthGiven (RefusedLength r) value = record { number = numberOf r; value = value }
 
--- the largest miss count of a spread, and its room
-pub record SpreadGiven : Type 0 where
+-- a value with the room that was lent to its call
+pub record RoomGiven : Type 0 where
   pub answer : ValueGiven
   pub room : List ℕ
 
 -- of what the spread answers and leaves
-abbrev pub spreadGiven : SpreadAnswer → ℕ → SpreadGiven
+abbrev pub spreadGiven : SpreadAnswer → ℕ → RoomGiven
 spreadGiven s value = record { answer = countGiven (s .answer) value; room = s .room }
+
+-- ---- a trace: 0, or the refusal's number; its values; and the room
+
+-- reading: how many accesses were read, the place of the first damaged block, and the room
+pub record ReadGiven : Type 0 where
+  pub number : ℕ
+  pub count : ℕ
+  pub place : ℕ
+  pub room : List ℕ
+
+-- of its answer, with what stood behind the two pointers, and the room as it is now
+abbrev pub readingGiven : Reading → ℕ → ℕ → List ℕ → ReadGiven
+readingGiven (AccessesRead n) count place room = record { number = 0; count = n; place = place; room = room }
+readingGiven (Damaged p) count place room = record { number = readingSays (Damaged p) .number; count = count; place = p; room = room }
+readingGiven (RefusedReading r) count place room = record { number = numberOf r; count = count; place = place; room = room }
+
+-- of what reading leaves
+abbrev pub readGiven : ReadLeft → ℕ → ℕ → ReadGiven
+readGiven a count place = readingGiven (a .answer) count place (a .room)
+
+-- listing, writing: how many blocks are damaged, or were written
+abbrev pub blocksGiven : Counted → ℕ → ValueGiven
+blocksGiven (Blocks n) value = record { number = 0; value = n }
+blocksGiven (RefusedBlocks r) value = record { number = numberOf r; value = value }
+
+-- of what they leave
+abbrev pub countedGiven : CountLeft → ℕ → RoomGiven
+countedGiven a value = record { answer = blocksGiven (a .answer) value; room = a .room }
 
 -- ---- a curve's text: how many bytes it has, or 0 where a room is too short; and the rooms
 

@@ -7,6 +7,11 @@ use questions::above_in;
 use questions::smallest_budget_in;
 use questions::smallest_cycles_in;
 use questions::spread_in;
+use recorder::Counted;
+use recorder::Reading;
+use recorder::list_damaged;
+use recorder::read_trace;
+use recorder::write_trace;
 use rows::above;
 use rows::above_cycles;
 use rows::smallest_budget;
@@ -32,8 +37,9 @@ ghost use Rattle.rules.specs.Longest.{longestAnswer};
 ghost use Rattle.rules.specs.Questions.{aboveAnswer, budgetAnswer, spreadAnswer};
 ghost use Rattle.words.specs.Tables.{tableOf};
 ghost use Rattle.estimate.specs.Call.{analysed};
+ghost use Rattle.recorder.specs.Calls.{traceRead, traceListed, traceWritten};
 ghost use Rattle.text.specs.Rooms.{afterNumbers, afterText, afterCyclesOfNumbers, afterCyclesOfText};
-ghost use Rattle.estimate_c.specs.Given.{graphGiven, amountGiven, countGiven, timeGiven, lengthGiven, spreadGiven, bytesOf, numbersGiven, textGiven};
+ghost use Rattle.estimate_c.specs.Given.{graphGiven, amountGiven, countGiven, timeGiven, lengthGiven, spreadGiven, readGiven, countedGiven, bytesOf, numbersGiven, textGiven};
 
 // The graph call.
 #[no_mangle]
@@ -254,6 +260,61 @@ pub extern "C" fn estimate_row_smallest_cycles(
     ensures { λ r. ⌜ record { number = r; value = now (cycles .exit) } ≡ timeGiven (cycleBudgetAnswer (now (row .entry)) core longest allowance) (now (cycles .entry)) ⌝ }
 {
     give_time(smallest_cycles(row, core, longest, allowance), cycles)
+}
+
+// The accesses of a trace.
+#[no_mangle]
+pub extern "C" fn estimate_trace_read(
+    trace: &[u8],
+    accesses: &mut [u32],
+    count: &mut usize,
+    place: &mut usize,
+) -> u64
+    ensures { λ r. ⌜ record { number = r; count = now (count .exit); place = now (place .exit); room = now (accesses .exit) } ≡ readGiven (traceRead (now (trace .entry)) (now (accesses .entry))) (now (count .entry)) (now (place .entry)) ⌝ }
+{
+    match read_trace(trace, accesses) {
+        Reading::Accesses(found) => {
+            *count = found;
+            0
+        }
+        Reading::Damaged(first) => {
+            *place = first;
+            13
+        }
+        Reading::Refused(reason) => reason.number(),
+    }
+}
+
+// The places of a trace's damaged blocks.
+#[no_mangle]
+pub extern "C" fn estimate_trace_damaged(trace: &[u8], places: &mut [u64], count: &mut usize) -> u64
+    ensures { λ r. ⌜ record { answer = record { number = r; value = now (count .exit) }; room = now (places .exit) } ≡ countedGiven (traceListed (now (trace .entry)) (now (places .entry))) (now (count .entry)) ⌝ }
+{
+    match list_damaged(trace, places) {
+        Counted::Blocks(found) => {
+            *count = found;
+            0
+        }
+        Counted::Refused(reason) => reason.number(),
+    }
+}
+
+// The trace of a run of accesses.
+#[no_mangle]
+pub extern "C" fn estimate_trace_write(
+    accesses: &[u32],
+    trace: &mut [u8],
+    blocks: &mut usize,
+) -> u64
+    ensures { λ r. ⌜ record { answer = record { number = r; value = now (blocks .exit) }; room = now (trace .exit) } ≡ countedGiven (traceWritten (now (accesses .entry)) (now (trace .entry))) (now (blocks .entry)) ⌝ }
+{
+    match write_trace(accesses, trace) {
+        Counted::Blocks(found) => {
+            *blocks = found;
+            0
+        }
+        Counted::Refused(reason) => reason.number(),
+    }
 }
 
 // How many bytes were written: 0 where a room is too short.

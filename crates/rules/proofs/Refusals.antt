@@ -12,7 +12,7 @@ use borrow.Author.Tests.{ltb-true, ltb-false, eqb-true, not-false}
 use Rattle.basics.specs.Sums.{sumOver}
 use Rattle.basics.proofs.Bools.{and-left, and-right, or-cases, not-left, not-right}
 use Rattle.rules.specs.declared.Refusal.{Refusal}
-use Rattle.rules.specs.declared.Refusal.the-variants.{Text, Ways, Limit, Tracked, Accesses, Graph, Room, Row, SpreadRoom, Sets, NoCore}
+use Rattle.rules.specs.declared.Refusal.the-variants.{Text, Ways, Limit, Tracked, Accesses, Graph, Room, Row, SpreadRoom, Sets, NoCore, TraceLength, TraceRoom}
 use Rattle.rules.specs.declared.Verdict.{Verdict}
 use Rattle.rules.specs.declared.Verdict.the-variants.{Accepted, Refused}
 use Rattle.rules.specs.Answers.{numberOf, Reason, first, verdictSays, outcomeSays}
@@ -39,6 +39,8 @@ numbered Row e = omega arith
 numbered SpreadRoom e = omega arith
 numbered Sets e = omega arith
 numbered NoCore e = omega arith
+numbered TraceLength e = omega arith
+numbered TraceRoom e = omega arith
 
 pub none-applies : (rs : List Reason) → verdictSays (first rs) ≡ 0 → Every (λ r. r .applies ≡ false) rs
 none-applies [] h = tt

@@ -118,6 +118,8 @@ pub enum Refusal {
     SpreadRoom,
     Sets,
     NoCore,
+    TraceLength,
+    TraceRoom,
 }
 
 impl Refusal {
@@ -137,6 +139,8 @@ impl Refusal {
             Refusal::SpreadRoom => 8,
             Refusal::Sets => 10,
             Refusal::NoCore => 16,
+            Refusal::TraceLength => 12,
+            Refusal::TraceRoom => 21,
         }
     }
 }

@@ -14,3 +14,5 @@ pub mod Lines
 pub mod Printed
 -- What a call leaves in its rooms
 pub mod Rooms
+-- What is said of a trace
+pub mod TraceLines

@@ -35,7 +35,7 @@ line-fits Misses n h = omega (arith, h)
 line-fits Cycles n h = omega (arith, h)
 
 -- put at the front
-front-put : (bs : List ℕ) (e : ℕ) (o o₁ : List ℕ) → Put bs 0 e o o₁ → o₁ ≡ bs ++ drop (length bs) o
+pub front-put : (bs : List ℕ) (e : ℕ) (o o₁ : List ℕ) → Put bs 0 e o o₁ → o₁ ≡ bs ++ drop (length bs) o
 front-put bs e o o₁ done =
     done .room ∙ ap₂ (λ (s t : List ℕ). s ++ t) (take-all (length bs) bs (le-refl (length bs))) (ap (λ (k : ℕ). drop k o) (zero-add (length bs)))
 

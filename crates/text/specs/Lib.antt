@@ -20,3 +20,5 @@ pub mod Rooms
 pub mod Working
 -- which text is wanted
 pub mod Wanted
+-- What is said of a trace
+pub mod Traces

@@ -1,4 +1,7 @@
 // The programs' text: from the bytes that they read to the bytes that they write, in rooms that the caller lends.
+use crate::traces::has_bytes;
+use crate::traces::put_listing;
+use crate::traces::put_reading;
 use crate::working::Wanted;
 use crate::working::has_room;
 use crate::working::put_numbers;
@@ -6,10 +9,12 @@ use crate::working::put_text;
 use reading::clear_numbers;
 ghost use mathlib.Core.Path.{_≡_};
 ghost use Rattle.text.specs.Rooms.{afterNumbers, afterText, afterCyclesOfNumbers, afterCyclesOfText};
+ghost use Rattle.text.specs.Traces.{accessesTold, damagedTold};
 ghost use Rattle.text.specs.Wanted.{wantedAfter, wantedAfterText};
 
 mod cores;
 mod parts;
+mod traces;
 mod working;
 mod writing;
 
@@ -72,6 +77,29 @@ pub fn cycles_of_text(
     ensures { λ r. ⌜ record { answer = r; numbers = now (numbers .exit); rooms = record { result = now (result .exit); work = now (work .exit); counts = now (counts .exit); output = now (output .exit) } } ≡ afterCyclesOfText (now (text .entry)) (now (numbers .entry)) (record { result = now (result .entry); work = now (work .entry); counts = now (counts .entry); output = now (output .entry) }) ⌝ }
 {
     write_text(Wanted::Cycles, text, numbers, result, work, counts, output)
+}
+
+// The text of a trace's accesses, at the front of `output`; they go to `accesses`, as reading leaves them. Long enough is an output of 63
+// bytes and 21 for each access that there is room for.
+pub fn accesses_of_trace(trace: &[u8], accesses: &mut [u32], output: &mut [u8]) -> Written
+    ensures { λ r. ⌜ record { answer = r; room = now (accesses .exit); output = now (output .exit) } ≡ accessesTold (now (trace .entry)) (now (accesses .entry)) (now (output .entry)) ⌝ }
+{
+    if !has_bytes(accesses.len(), output.len()) {
+        return Written::NoRoom;
+    }
+    let end = put_reading(trace, accesses, output);
+    Written::Bytes(end)
+}
+
+// The text of a trace's damaged blocks; their places go to `places`. Long enough is an output of 63 bytes and 21 for each place.
+pub fn damaged_of_trace(trace: &[u8], places: &mut [u64], output: &mut [u8]) -> Written
+    ensures { λ r. ⌜ record { answer = r; room = now (places .exit); output = now (output .exit) } ≡ damagedTold (now (trace .entry)) (now (places .entry)) (now (output .entry)) ⌝ }
+{
+    if !has_bytes(places.len(), output.len()) {
+        return Written::NoRoom;
+    }
+    let end = put_listing(trace, places, output);
+    Written::Bytes(end)
 }
 
 // The text that is wanted, for numbers in the curve's order.

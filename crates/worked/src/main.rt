@@ -1,7 +1,8 @@
 // Every number that document 01 gives, through the graph call and the questions: the worked cases of section 6, each asked every
 // question, and both sides of each refusal of section 5 but the text's. After each call the rooms are compared word by word. Cases on
 // caches with sets (document 02, request 1/13) and of the same untracked block twice running (3/13) are worked by hand. The longest path
-// and the questions in cycles (9/13) are asked of the same graphs and tables, and of some more.
+// and the questions in cycles (9/13) are asked of the same graphs and tables, and of some more. Traces are written, read and judged
+// by hand (7/13).
 use crate::cases::all_cases;
 use crate::cycle_refusals::all_cycle_refusals;
 use crate::last::all_lasts;
@@ -11,8 +12,10 @@ use crate::refusals::all_refusals;
 use crate::report::Report;
 use crate::sets::all_sets;
 use crate::tables::all_tables;
+use crate::traces::all_traces;
 
 mod asked;
+mod blocks;
 mod cases;
 mod cores;
 mod cycle_refusals;
@@ -29,6 +32,9 @@ mod sets;
 mod shown;
 mod tables;
 mod together;
+mod trace_calls;
+mod trace_rooms;
+mod traces;
 mod trial;
 
 fn main() {
@@ -39,7 +45,8 @@ fn main() {
     let cases = all_lasts(all_sets(all_cases(nothing)));
     let refusals = all_refusals(cases);
     let tables = all_tables(refusals);
-    let all = all_cycle_refusals(all_paths(tables));
+    let cycles = all_cycle_refusals(all_paths(tables));
+    let all = all_traces(cycles);
     say(b"comparisons ", all.comparisons);
     say(b"failed ", all.failed);
 }

@@ -1,4 +1,6 @@
-// What a question answered, in numbers.
+// What a question or a call on a trace answered, in numbers.
+use recorder::Counted;
+use recorder::Reading;
 use rules::Amount;
 use rules::Count;
 use rules::Length;
@@ -47,5 +49,24 @@ pub(crate) fn length_said(answer: Length) -> Said {
     match answer {
         Length::Accesses(accesses) => value_said(accesses),
         Length::Refused(why) => refusal_said(why),
+    }
+}
+
+pub(crate) fn blocks_said(answer: Counted) -> Said {
+    match answer {
+        Counted::Blocks(blocks) => value_said(blocks as u64),
+        Counted::Refused(why) => refusal_said(why),
+    }
+}
+
+// A damaged block is refused with 13, and the value is its place.
+pub(crate) fn reading_said(answer: Reading) -> Said {
+    match answer {
+        Reading::Accesses(accesses) => value_said(accesses as u64),
+        Reading::Damaged(place) => Said {
+            refusal: 13,
+            value: place as u64,
+        },
+        Reading::Refused(why) => refusal_said(why),
     }
 }
