@@ -2,22 +2,28 @@
 
 // Probability 1, in units: 2^48.
 pub(crate) const WHOLE: u64 = 281474976710656;
-// 2^47 and 2^46.
+// 2^47.
 pub(crate) const HALF: u64 = 140737488355328;
-
-pub(crate) const QUARTER: u64 = 70368744177664;
 
 // One in 10^9, in units, rounded down.
 pub(crate) const RARE: u64 = 281474;
-
-// The largest 32-bit number.
-pub(crate) const TOP: u32 = 4294967295;
 
 // One line: some words and a number.
 pub(crate) fn say(words: &[u8], n: u64) {
     io::write_all(1, words);
     io::print_decimal(1, n);
     io::write_all(1, b"\n");
+}
+
+// What a call answered, in words.
+pub(crate) fn say_answer(part: &[u8], name: &[u8], refusal: u64) {
+    io::write_all(1, part);
+    io::write_all(1, name);
+    if refusal == 0 {
+        io::write_all(1, b" passes\n");
+        return;
+    }
+    say(b" gives ", refusal);
 }
 
 // One state, as mask/misses/units.

@@ -1,69 +1,92 @@
-// Both sides of refusals 7 and 8: rows that are tables and rows that are not. Each is asked every question, in misses and in cycles.
+// The lines of a row of states: rows that are tables and rows that are not, asked in misses and in cycles. The fields are
+//
+//     question NAME | answer | counts | words            every question about so many states of the words; the answer to the first count is written
+//     ladder NAME   | answer | counts | states, halves   the same of a ladder of so many states, which are halves from that place on
+//     time NAME     | core, longest path, answer | words             both questions in cycles
+//     allowed       | core, longest path, units, cycles | words      the smallest cycle budget for so many units
+//
+// where the answer is 0 or the number of a refusal.
 use crate::asked::every_question;
 use crate::asked::no_spread;
-use crate::cycle_refusals::row_in_cycles;
-use crate::cycle_refusals::table_in_cycles;
-use crate::expected::MOST;
-use crate::numbers::HALF;
-use crate::numbers::WHOLE;
+use crate::cycles::above;
+use crate::cycles::budget;
+use crate::cycles::every_core;
+use crate::cycles::refused;
+use crate::expected::last_count;
+use crate::expected::plus;
+use crate::lines::begin;
+use crate::lines::count;
+use crate::lines::number;
+use crate::numbers::say;
+use crate::numbers::say_answer;
 use crate::report::Report;
 use crate::said::amount_said;
 use crate::said::count_said;
-use crate::trial::say_answer;
+use crate::said::time_said;
+use questions::above_cycles_in;
 use questions::above_in;
 use questions::smallest_budget_in;
+use questions::smallest_cycles_in;
 
-// 2^63, and 2^42 and 2^41: of these, 64 and 128 make WHOLE.
-const HUGE: u64 = 9223372036854775808;
-
+// 2^42 and 2^41: of these, 64 and 128 make WHOLE.
 const STEP: u64 = 4398046511104;
 
 const HALF_STEP: u64 = 2199023255552;
 
-// Every question about the first `n` states of `words`, which are a table.
-fn answered(words: &[u64], n: usize, room: &mut [u64], report: Report) -> Report {
-    let asked = every_question(words, n, room, words, report);
-    table_in_cycles(words, n, words, asked)
+// A table, with the shortest and the longest path that it can have, on every core.
+fn table_in_cycles(words: &[u64], n: usize, report: Report) -> Report {
+    let last = last_count(words);
+    let end = plus(last, 1);
+    let long = every_core(words, n, 4096, last, end, words, report);
+    let exact = every_core(words, n, last, last, end, words, long);
+    if last == 0 {
+        return exact;
+    }
+    refused(words, n, 11, last - 1, 7, exact)
+}
+
+// No table: 16 before 4 before 7.
+fn row_in_cycles(words: &[u64], n: usize, report: Report) -> Report {
+    let core = refused(words, n, 12, 4097, 16, report);
+    let long = refused(words, n, 11, 4097, 4, core);
+    refused(words, n, 11, 4096, 7, long)
 }
 
 // Every question about the first `n` states of `words` is refused with 7, in long room and in none.
-fn refused(words: &[u64], n: usize, room: &mut [u64], report: Report) -> Report {
-    let above = amount_said(above_in(words, n, 0));
-    let budget = count_said(smallest_budget_in(words, n, 0));
+fn row_refused(words: &[u64], n: usize, room: &mut [u64], report: Report) -> Report {
+    let units = amount_said(above_in(words, n, 0));
+    let misses = count_said(smallest_budget_in(words, n, 0));
     let asked = report
-        .compared(above.refusal == 7)
-        .compared(budget.refusal == 7);
+        .compared(units.refusal == 7)
+        .compared(misses.refusal == 7);
     let cycles = row_in_cycles(words, n, asked);
     let long = no_spread(words, n, room, 7, cycles);
     no_spread(words, n, &mut room[0..0], 7, long)
 }
 
-fn is_refused(words: &[u64], n: usize) -> bool {
-    amount_said(above_in(words, n, 0)).refusal != 0
+// Every question about the first `n` states of `words`, which are a table where `answer` is 0.
+fn row(words: &[u64], n: usize, answer: u64, report: Report) -> Report {
+    let mut room: [u64; 4100] = [0; 4100];
+    if answer == 0 {
+        let asked = every_question(words, n, &mut room, words, report);
+        return table_in_cycles(words, n, asked);
+    }
+    row_refused(words, n, &mut room, report)
 }
 
-// The first `n` states of `words` are a table, if `good`.
-fn first_states(name: &[u8], words: &[u64], n: usize, good: bool, report: Report) -> Report {
-    let mut room: [u64; 4100] = [0; 4100];
-    if is_refused(words, n) {
-        say_answer(b"questions: ", name, 7);
-    } else {
-        say_answer(b"questions: ", name, 0);
+// The row of a line, for each of its counts.
+fn row_line(name: &[u8], line: &[u64], words: &[u64], report: Report) -> Report {
+    let answer = number(line, 1, 0);
+    let first = amount_said(above_in(words, number(line, 2, 0) as usize, 0));
+    say_answer(b"questions: ", name, first.refusal);
+    let mut all = report;
+    let counts = count(line, 2);
+    let mut i: usize = 0;
+    while i < counts {
+        all = row(words, number(line, 2, i) as usize, answer, all);
+        i += 1;
     }
-    if good {
-        return answered(words, n, &mut room, report);
-    }
-    refused(words, n, &mut room, report)
-}
-
-// All states of `words`, and no more than there are.
-fn row(name: &[u8], words: &[u64], good: bool, report: Report) -> Report {
-    let asked = first_states(name, words, words.len() / 3, good, report);
-    let mut room: [u64; 4100] = [0; 4100];
-    if good {
-        return answered(words, words.len(), &mut room, asked);
-    }
-    refused(words, words.len(), &mut room, asked)
+    all
 }
 
 // A state at each mask from 0 on, with as many misses: 2^42 units each, and half of that from place `halves` on.
@@ -85,97 +108,69 @@ fn step_units(i: usize, halves: usize) -> u64 {
     HALF_STEP
 }
 
-fn sixty_four(report: Report) -> Report {
-    let mut words: [u64; 192] = [0; 192];
-    ladder(&mut words, 64);
-    let all = row(b"64 states", &words, true, report);
-    first_states(b"0 states of 64", &words, 0, false, all)
+fn ladder_in(name: &[u8], line: &[u64], words: &mut [u64], report: Report) -> Report {
+    ladder(words, number(line, 3, 1) as usize);
+    row_line(name, line, words, report)
 }
 
-fn sixty_five(report: Report) -> Report {
-    let mut words: [u64; 195] = [0; 195];
-    ladder(&mut words, 63);
-    let all = row(b"65 states", &words, false, report);
-    first_states(b"64 states of 65", &words, 64, false, all)
-}
-
-fn thousands(report: Report) -> Report {
+pub(crate) fn ladder_line(name: &[u8], line: &[u64], report: Report) -> Report {
     let mut words: [u64; 9000] = [0; 9000];
-    ladder(&mut words, 63);
-    row(b"3000 states", &words, false, report)
+    let states = number(line, 3, 0);
+    if 3000 < states {
+        return report.compared(false);
+    }
+    let end = states as usize * 3;
+    ladder_in(name, line, &mut words[0..end], report)
 }
 
-fn counts(report: Report) -> Report {
-    let none = row(b"no state", &[], false, report);
-    let two_words = row(b"two words", &[0, WHOLE], false, none);
-    let one = one_state(b"one state", 0, 0, WHOLE, true, two_words);
-    thousands(sixty_five(sixty_four(one)))
+// Both questions in cycles.
+fn time_line(name: &[u8], line: &[u64], words: &[u64], report: Report) -> Report {
+    let n = words.len() / 3;
+    let core = number(line, 1, 0) as usize;
+    let longest = number(line, 1, 1);
+    let answer = number(line, 1, 2);
+    let said = amount_said(above_cycles_in(words, n, core, longest, 0));
+    say_answer(b"cycles: ", name, said.refusal);
+    if answer == 0 {
+        let units = above(words, n, core, longest, 0, words, report);
+        return budget(words, n, core, longest, 0, words, units);
+    }
+    refused(words, n, core, longest, answer, report)
 }
 
-// One state: a mask, misses and units.
-fn one_state(
+// The smallest cycle budget for a number of units.
+fn allowed_line(line: &[u64], words: &[u64], report: Report) -> Report {
+    let core = number(line, 1, 0) as usize;
+    let longest = number(line, 1, 1);
+    let units = number(line, 1, 2);
+    let said = time_said(smallest_cycles_in(words, words.len() / 3, core, longest, units));
+    io::write_all(1, b"cycles: at most ");
+    io::print_decimal(1, units);
+    say(b" above: ", said.value);
+    report
+        .compared(said.refusal == 0)
+        .compared(said.value == number(line, 1, 3))
+}
+
+// A line whose words stand in its field `field`.
+pub(crate) fn table_line(
+    kind: u8,
     name: &[u8],
-    mask: u64,
-    misses: u64,
-    units: u64,
-    good: bool,
+    line: &[u64],
+    field: usize,
     report: Report,
 ) -> Report {
-    row(name, &[mask, misses, units], good, report)
-}
-
-// Two states of one half each.
-fn two_halves(
-    name: &[u8],
-    mask: u64,
-    misses: u64,
-    next_mask: u64,
-    next_misses: u64,
-    good: bool,
-    report: Report,
-) -> Report {
-    let words: [u64; 6] = [mask, misses, HALF, next_mask, next_misses, HALF];
-    row(name, &words, good, report)
-}
-
-fn orders(report: Report) -> Report {
-    let rise = two_halves(b"misses rising at one mask", 1, 1, 1, 2, true, report);
-    let fall = two_halves(b"misses falling at one mask", 1, 2, 1, 1, false, rise);
-    let same = two_halves(b"equal states", 1, 1, 1, 1, false, fall);
-    let masks = two_halves(b"masks rising, misses falling", 1, 2, 2, 1, true, same);
-    two_halves(b"masks falling", 2, 1, 1, 2, false, masks)
-}
-
-fn ranges(report: Report) -> Report {
-    let mask = one_state(b"mask 65535", 65535, 0, WHOLE, true, report);
-    let larger = one_state(b"mask 65536", 65536, 0, WHOLE, false, mask);
-    let misses = one_state(b"misses 4096", 0, 4096, WHOLE, true, larger);
-    one_state(b"misses 4097", 0, 4097, WHOLE, false, misses)
-}
-
-// Two states of masks 0 and 1, without misses.
-fn two_units(name: &[u8], units: u64, next_units: u64, good: bool, report: Report) -> Report {
-    row(name, &[0, 0, units, 1, 0, next_units], good, report)
-}
-
-fn extremes(report: Report) -> Report {
-    let first = two_units(b"first state of 0 units", 0, WHOLE, false, report);
-    let last = two_units(b"last state of 0 units", WHOLE, 0, false, first);
-    one_state(b"largest numbers", MOST, MOST, MOST, false, last)
-}
-
-fn totals(report: Report) -> Report {
-    let short = two_units(b"one unit short", HALF, HALF - 1, false, report);
-    let over = two_units(b"one unit over", HALF, HALF + 1, false, short);
-    two_units(b"one unit and the rest", 1, WHOLE - 1, true, over)
-}
-
-fn wrapped_total(report: Report) -> Report {
-    let wraps: [u64; 9] = [0, 0, HUGE, 1, 0, HUGE, 2, 0, WHOLE];
-    row(b"a total of 2^64 and 2^48", &wraps, false, report)
-}
-
-pub(crate) fn all_tables(report: Report) -> Report {
-    let states = extremes(ranges(orders(counts(report))));
-    wrapped_total(totals(states))
+    if 14 < field {
+        return report.compared(false);
+    }
+    let from = begin(line, field);
+    let end = begin(line, field + 1);
+    if end < from {
+        return report.compared(false);
+    }
+    match kind {
+        b'q' => row_line(name, line, &line[from..end], report),
+        b't' => time_line(name, line, &line[from..end], report),
+        _ => allowed_line(line, &line[from..end], report),
+    }
 }

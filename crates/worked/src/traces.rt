@@ -1,212 +1,287 @@
-// Traces by hand (document 02, request 7/13): blocks with their checks, a trace of 126 accesses, damaged blocks, and both sides of each refusal.
-use crate::blocks::all_blocks;
+// The lines of a trace (document 02, request 7/13). One trace is kept from line to line, and field 2 says how many bytes of it a line is about:
+//
+//     new          |                           | bytes | accesses         zeros, and then the blocks of these accesses
+//     bytes        | place, byte, place, byte .. | bytes                  these bytes are changed
+//     equals       | place, byte, place, byte .. | bytes                  one block, of zeros but for these bytes
+//     shown NAME   | place, byte               | bytes                    one byte is written and compared
+//     made NAME    | answer, end               | bytes | accesses         the accesses are written, and their blocks end at byte `end`
+//     damaged NAME | answer                    | bytes | places | room    the damaged blocks are listed in room for so many
+//     got NAME     | answer, value             | bytes | accesses | room  the trace is read into room for so many accesses
+//
+// where the answer is 0 or the number of a refusal, which leaves the room as it was. The value is how many accesses were read, or the place of
+// a damaged block.
+use crate::lines::begin;
+use crate::lines::count;
+use crate::lines::list;
+use crate::lines::number;
+use crate::lines::small;
 use crate::numbers::say;
+use crate::numbers::say_answer;
 use crate::report::Report;
-use crate::trace_calls::listed;
-use crate::trace_calls::read;
-use crate::trace_calls::written;
-use crate::trace_rooms::first_are;
-use crate::trace_rooms::wide;
+use crate::rooms::has_only;
+use crate::rooms::is_marked;
+use crate::rooms::mark;
+use crate::said::Said;
+use crate::said::blocks_said;
+use crate::said::reading_said;
+use recorder::list_damaged;
+use recorder::read_trace;
+use recorder::write_trace;
 
-// 126 accesses are a full block and one of one access, which are read back.
-fn one_more_than_full(report: Report) -> Report {
-    let mut accesses: [u32; 126] = [258; 126];
-    accesses[125] = 9;
-    let mut trace: [u8; 1024] = [0; 1024];
-    let mut room: [u32; 260] = [0; 260];
-    let wrote = written(b"126 accesses", &accesses, &mut trace, 0, 1024, report);
-    say(b"traces: 126 accesses, in block 0: ", wide(trace[4]));
-    say(b"traces: 126 accesses, in block 1: ", wide(trace[516]));
-    let back = read(b"126 accesses read", &trace, &mut room, 0, 126, wrote);
-    back.compared(trace[4] == 125)
-        .compared(trace[516] == 1)
-        .compared(first_are(&room, 125, 258))
-        .compared(room[125] == 9)
+fn fill_bytes(room: &mut [u8], with: u8) {
+    let mut i: usize = 0;
+    while i < room.len() {
+        room[i] = with;
+        i += 1;
+    }
 }
 
-// Three blocks, in which byte 698, of block 1, and byte 40, of block 0, become these: they were 2 and 0.
-fn three_blocks(name: &[u8], low: u8, high: u8, damaged: &[u64], report: Report) -> Report {
-    let accesses: [u32; 300] = [258; 300];
-    let mut trace: [u8; 1536] = [0; 1536];
+fn fill_numbers(room: &mut [u32], with: u32) {
+    let mut i: usize = 0;
+    while i < room.len() {
+        room[i] = with;
+        i += 1;
+    }
+}
+
+// Whether each byte from place `from` on is `value`.
+fn bytes_are(room: &[u8], from: usize, value: u8) -> bool {
+    let mut i = from;
+    while i < room.len() {
+        if room[i] != value {
+            return false;
+        }
+        i += 1;
+    }
+    true
+}
+
+// Whether each number from place `from` on is `value`.
+fn numbers_are(room: &[u32], from: usize, value: u32) -> bool {
+    let mut i = from;
+    while i < room.len() {
+        if room[i] != value {
+            return false;
+        }
+        i += 1;
+    }
+    true
+}
+
+// Whether the first numbers are those of a field.
+fn numbers_stand(room: &[u32], line: &[u64], field: usize) -> bool {
+    let n = count(line, field);
+    if room.len() < n {
+        return false;
+    }
+    let mut i: usize = 0;
+    while i < n {
+        if room[i] != small(number(line, field, i)) {
+            return false;
+        }
+        i += 1;
+    }
+    true
+}
+
+fn put_byte(trace: &mut [u8], at: u64, byte: u64) {
+    let place = at as usize;
+    if place < trace.len() {
+        if byte < 256 {
+            trace[place] = byte as u8;
+        }
+    }
+}
+
+// The bytes of a line, at their places.
+fn put_bytes(trace: &mut [u8], line: &[u64]) {
+    let n = count(line, 1) / 2;
+    let mut i: usize = 0;
+    while i < n {
+        put_byte(trace, number(line, 1, i * 2), number(line, 1, i * 2 + 1));
+        i += 1;
+    }
+}
+
+fn write_in(trace: &mut [u8], line: &[u64], accesses: &mut [u32]) -> Said {
+    let n = list(line, 3, accesses);
+    blocks_said(write_trace(&accesses[0..n], trace))
+}
+
+// The accesses of a line are written.
+fn write_list(trace: &mut [u8], line: &[u64]) -> Said {
+    let mut accesses: [u32; 4100] = [0; 4100];
+    write_in(trace, line, &mut accesses)
+}
+
+// Whether the trace is a block of zeros but for the bytes of a line.
+fn is_block(trace: &[u8], line: &[u64]) -> bool {
+    let mut block: [u8; 512] = [0; 512];
+    put_bytes(&mut block, line);
+    check::same(trace, &block)
+}
+
+// What writing left: blocks up to byte `end` and zeros behind them, or a refusal with the bytes as they were.
+fn compare_made(name: &[u8], line: &[u64], said: Said, trace: &[u8], report: Report) -> Report {
+    let answer = number(line, 1, 0);
+    let end = number(line, 1, 1);
+    say_answer(b"traces: ", name, said.refusal);
+    let told = report
+        .compared(said.refusal == answer)
+        .compared(said.value == end / 512);
+    if answer == 0 {
+        return told.compared(bytes_are(trace, end as usize, 0));
+    }
+    told.compared(bytes_are(trace, 0, 7))
+}
+
+fn made(name: &[u8], line: &[u64], trace: &mut [u8], report: Report) -> Report {
+    fill_bytes(trace, 7);
+    let said = write_list(trace, line);
+    compare_made(name, line, said, trace, report)
+}
+
+// What reading left: the accesses and zeros behind them, or a refusal with the room as it was.
+fn compare_got(name: &[u8], line: &[u64], said: Said, room: &[u32], report: Report) -> Report {
+    let answer = number(line, 1, 0);
+    let value = number(line, 1, 1);
+    say_answer(b"traces: ", name, said.refusal);
+    let told = report
+        .compared(said.refusal == answer)
+        .compared(said.value == value);
+    if answer == 0 {
+        return told.compared(numbers_are(room, value as usize, 0))
+            .compared(numbers_stand(room, line, 3));
+    }
+    told.compared(numbers_are(room, 0, 7))
+}
+
+fn got_in(name: &[u8], line: &[u64], trace: &[u8], room: &mut [u32], report: Report) -> Report {
+    fill_numbers(room, 7);
+    let said = reading_said(read_trace(trace, room));
+    compare_got(name, line, said, room, report)
+}
+
+fn got(name: &[u8], line: &[u64], trace: &[u8], report: Report) -> Report {
+    let mut accesses: [u32; 400] = [0; 400];
+    let room = number(line, 4, 0) as usize;
+    if 400 < room {
+        return report.compared(false);
+    }
+    got_in(name, line, trace, &mut accesses[0..room], report)
+}
+
+// How many blocks are damaged, or the refusal.
+fn say_damaged(name: &[u8], refusal: u64, damaged: u64) {
+    if refusal == 0 {
+        io::write_all(1, b"traces: ");
+        io::write_all(1, name);
+        say(b": damaged ", damaged);
+        return;
+    }
+    say_answer(b"traces: ", name, refusal);
+}
+
+// The damaged blocks are listed: these places and zeros behind them, or a refusal that leaves the room as it was.
+fn damaged_in(
+    name: &[u8],
+    line: &[u64],
+    trace: &[u8],
+    places: &mut [u64],
+    expected: &[u64],
+    report: Report,
+) -> Report {
+    let answer = number(line, 1, 0);
+    mark(places);
+    let said = blocks_said(list_damaged(trace, places));
+    say_damaged(name, said.refusal, said.value);
+    let told = report
+        .compared(said.refusal == answer)
+        .compared(said.value == expected.len() as u64);
+    if answer == 0 {
+        return told.compared(has_only(places, expected));
+    }
+    told.compared(is_marked(places))
+}
+
+fn damaged(name: &[u8], line: &[u64], trace: &[u8], report: Report) -> Report {
     let mut places: [u64; 5] = [0; 5];
-    let wrote = written(b"300 accesses", &accesses, &mut trace, 0, 1536, report);
-    trace[40] = low;
-    trace[698] = high;
-    let list = listed(name, &trace, &mut places, 0, damaged, wrote);
-    let mut room: [u32; 375] = [0; 375];
-    if damaged.len() == 0 {
-        return read(name, &trace, &mut room, 0, 300, list);
-    }
-    read(name, &trace, &mut room, 13, damaged[0], list)
-}
-
-// A block in the middle is damaged: it is listed alone, and reading names it; then the first one too.
-fn damaged_blocks(report: Report) -> Report {
-    let none = three_blocks(b"three blocks", 0, 2, &[], report);
-    let middle = three_blocks(b"a byte of block 1 changed", 0, 3, &[1], none);
-    three_blocks(b"a byte of blocks 0 and 1 changed", 3, 3, &[0, 1], middle)
-}
-
-// The first `bytes` bytes of a trace are read into room for `places` accesses.
-fn read_part(
-    name: &[u8],
-    trace: &[u8],
-    bytes: usize,
-    room: &mut [u32],
-    places: usize,
-    refusal: u64,
-    report: Report,
-) -> Report {
-    if trace.len() < bytes {
+    let room = number(line, 4, 0) as usize;
+    let from = begin(line, 3);
+    let end = begin(line, 4);
+    if 5 < room {
         return report.compared(false);
     }
-    if room.len() < places {
+    if end < from {
         return report.compared(false);
     }
-    read(
+    damaged_in(
         name,
-        &trace[0..bytes],
-        &mut room[0..places],
-        refusal,
-        0,
+        line,
+        trace,
+        &mut places[0..room],
+        &line[from..end],
         report,
     )
 }
 
-// A trace of zeros but for its first byte, `bytes` of them and at most 513, read into room for at most 125 accesses.
-fn zeros_read(
-    name: &[u8],
-    bytes: usize,
-    first: u8,
-    places: usize,
-    refusal: u64,
-    report: Report,
-) -> Report {
-    let mut trace: [u8; 513] = [0; 513];
-    trace[0] = first;
-    let mut room: [u32; 125] = [0; 125];
-    read_part(name, &trace, bytes, &mut room, places, refusal, report)
+fn wide(byte: u8) -> u64 {
+    byte as u64
 }
 
-// Both sides of 12, 21 and 13 when reading, and their order.
-fn read_refusals(report: Report) -> Report {
-    let none = zeros_read(b"no block in no room", 0, 0, 0, 0, report);
-    let one = zeros_read(b"512 bytes", 512, 0, 125, 0, none);
-    let less = zeros_read(b"511 bytes", 511, 0, 125, 12, one);
-    let more = zeros_read(b"513 bytes", 513, 0, 125, 12, less);
-    let short = zeros_read(b"room for 124 accesses", 512, 0, 124, 21, more);
-    let both = zeros_read(b"511 bytes in no room", 511, 0, 0, 12, short);
-    let damaged = zeros_read(b"a damaged block", 512, 1, 125, 13, both);
-    zeros_read(b"a damaged block, room for 124", 512, 1, 124, 21, damaged)
-}
-
-// The damaged blocks of the first `bytes` bytes, of which there are none, are listed in room for `places` places.
-fn list_part(
-    name: &[u8],
-    trace: &[u8],
-    bytes: usize,
-    room: &mut [u64],
-    places: usize,
-    refusal: u64,
-    report: Report,
-) -> Report {
-    if trace.len() < bytes {
-        return report.compared(false);
+// The byte at place `at`, and no byte past the end.
+fn byte_at(trace: &[u8], at: usize) -> u64 {
+    if at < trace.len() {
+        return wide(trace[at]);
     }
-    if room.len() < places {
-        return report.compared(false);
+    256
+}
+
+fn shown(name: &[u8], line: &[u64], trace: &[u8], report: Report) -> Report {
+    let byte = byte_at(trace, number(line, 1, 0) as usize);
+    io::write_all(1, b"traces: ");
+    io::write_all(1, name);
+    say(b": ", byte);
+    report.compared(byte == number(line, 1, 1))
+}
+
+// A line that leaves the trace as it is.
+fn looked(kind: u8, name: &[u8], line: &[u64], trace: &[u8], report: Report) -> Report {
+    match kind {
+        b'e' => report.compared(is_block(trace, line)),
+        b's' => shown(name, line, trace, report),
+        b'd' => damaged(name, line, trace, report),
+        _ => got(name, line, trace, report),
     }
-    listed(
-        name,
-        &trace[0..bytes],
-        &mut room[0..places],
-        refusal,
-        &[],
-        report,
-    )
 }
 
-// A trace of zeros listed, in room for at most one place.
-fn zeros_listed(name: &[u8], bytes: usize, places: usize, refusal: u64, report: Report) -> Report {
-    let trace: [u8; 513] = [0; 513];
-    let mut room: [u64; 1] = [0; 1];
-    list_part(name, &trace, bytes, &mut room, places, refusal, report)
+// A line about these bytes of the trace.
+fn trace_in(kind: u8, name: &[u8], line: &[u64], trace: &mut [u8], report: Report) -> Report {
+    if kind == b'n' {
+        fill_bytes(trace, 0);
+        write_list(trace, line);
+        return report;
+    }
+    if kind == b'b' {
+        put_bytes(trace, line);
+        return report;
+    }
+    if kind == b'm' {
+        return made(name, line, trace, report);
+    }
+    looked(kind, name, line, trace, report)
 }
 
-// Both sides of 12 and 21 when listing, and their order.
-fn list_refusals(report: Report) -> Report {
-    let none = zeros_listed(b"no block listed in no room", 0, 0, 0, report);
-    let one = zeros_listed(b"512 bytes listed", 512, 1, 0, none);
-    let less = zeros_listed(b"511 bytes listed", 511, 1, 12, one);
-    let short = zeros_listed(b"512 bytes listed in no room", 512, 0, 21, less);
-    zeros_listed(b"511 bytes listed in no room", 511, 0, 12, short)
-}
-
-// The first `count` accesses are written into `bytes` bytes, where they end at byte `end`.
-fn write_part(
+pub(crate) fn trace_line(
+    kind: u8,
     name: &[u8],
-    accesses: &[u32],
-    count: usize,
+    line: &[u64],
     trace: &mut [u8],
-    bytes: usize,
-    refusal: u64,
-    end: usize,
     report: Report,
 ) -> Report {
-    if accesses.len() < count {
+    let end = number(line, 2, 0) as usize;
+    if trace.len() < end {
         return report.compared(false);
     }
-    if trace.len() < bytes {
-        return report.compared(false);
-    }
-    written(
-        name,
-        &accesses[0..count],
-        &mut trace[0..bytes],
-        refusal,
-        end,
-        report,
-    )
-}
-
-// At most 4,097 accesses written into at most 16,897 bytes.
-fn eights_written(
-    name: &[u8],
-    count: usize,
-    bytes: usize,
-    refusal: u64,
-    end: usize,
-    report: Report,
-) -> Report {
-    let accesses: [u32; 4097] = [8; 4097];
-    let mut trace: [u8; 16897] = [0; 16897];
-    write_part(
-        name,
-        &accesses,
-        count,
-        &mut trace,
-        bytes,
-        refusal,
-        end,
-        report,
-    )
-}
-
-// Both sides of 4 and 21 when writing, and their order.
-fn write_refusals(report: Report) -> Report {
-    let none = eights_written(b"no access in no room", 0, 0, 0, 0, report);
-    let zeroed = eights_written(b"no access in 512 bytes", 0, 512, 0, 0, none);
-    let one = eights_written(b"one access in 512 bytes", 1, 512, 0, 512, zeroed);
-    let short = eights_written(b"one access in 511 bytes", 1, 511, 21, 0, one);
-    let full = eights_written(b"125 accesses in 512 bytes", 125, 512, 0, 512, short);
-    let more = eights_written(b"126 accesses in 1023 bytes", 126, 1023, 21, 0, full);
-    let most = eights_written(b"4096 accesses in 16897 bytes", 4096, 16897, 0, 16896, more);
-    let few = eights_written(b"4096 accesses in 16895 bytes", 4096, 16895, 21, 0, most);
-    let many = eights_written(b"4097 accesses in 16897 bytes", 4097, 16897, 4, 0, few);
-    eights_written(b"4097 accesses in no room", 4097, 0, 4, 0, many)
-}
-
-pub(crate) fn all_traces(report: Report) -> Report {
-    let damaged = damaged_blocks(one_more_than_full(all_blocks(report)));
-    write_refusals(list_refusals(read_refusals(damaged)))
+    trace_in(kind, name, line, &mut trace[0..end], report)
 }

@@ -2,8 +2,8 @@
 use Prim.Native.Nat.{_≤_, _-_}
 use lib.ListN.{length}
 use borrow.Author.Needs.{needs}
-use Rattle.worked.proofs.trace_rooms.bytes_are.Statement.{statement}
-use Rattle.worked.proofs.trace_rooms.bytes_are.Tie as tie
+use Rattle.worked.proofs.traces.bytes_are.Statement.{statement}
+use Rattle.worked.proofs.traces.bytes_are.Tie as tie
 
 abbrev Inv-loop : tie.InvT-loop
 Inv-loop room from value i₀ i = from ≤ i

@@ -4,8 +4,8 @@ use mathlib.Core.Path.{_≡_}
 use lib.ListN.{length, length-set}
 use native.Mathlib.Omega.{arith}
 use borrow.Author.Needs.{needs}
-use Rattle.worked.proofs.trace_rooms.fill_numbers.Statement.{statement}
-use Rattle.worked.proofs.trace_rooms.fill_numbers.Tie as tie
+use Rattle.worked.proofs.traces.fill_numbers.Statement.{statement}
+use Rattle.worked.proofs.traces.fill_numbers.Tie as tie
 
 abbrev Inv-loop : tie.InvT-loop
 Inv-loop room₀ with i₀ room i = (i ≤ length room₀) × (length room ≡ length room₀)

@@ -1,0 +1,288 @@
+// The lines of a graph: what the graph call and the longest path answer, and what stands in the rooms after the call. The fields are
+//
+//     sets, ways, limit | tracked blocks | run lengths | accesses | edges | words of the result room and of the working room | answer, set aside | states
+//
+// where the answer is 0 or the number of a refusal. A `worked` case is written with its answers to every question, which are compared; of a
+// `refusal` only what it gives is written, and of a `path` the longest path, which stands in the place of the answer.
+use crate::asked::ask_case;
+use crate::lines::begin;
+use crate::lines::count;
+use crate::lines::list;
+use crate::lines::number;
+use crate::lines::small;
+use crate::numbers::say;
+use crate::numbers::say_answer;
+use crate::numbers::say_states;
+use crate::report::Report;
+use crate::rooms::has_only;
+use crate::rooms::is_marked;
+use crate::rooms::mark;
+use crate::said::Said;
+use crate::said::length_said;
+use estimate::analyse;
+use longest::longest_path;
+use rules::Cache;
+use rules::Outcome;
+
+// The answers in numbers: the longest path; a refusal's number, or 0 with the number of states and the set-aside count.
+struct Got {
+    longest: Said,
+    refusal: u64,
+    states: usize,
+    aside: u64,
+}
+
+fn got_of(longest: Said, outcome: Outcome) -> Got {
+    match outcome {
+        Outcome::Finished(states, aside) => Got {
+            longest,
+            refusal: 0,
+            states,
+            aside: aside.0,
+        },
+        Outcome::Refused(why) => Got {
+            longest,
+            refusal: why.number(),
+            states: 0,
+            aside: 0,
+        },
+    }
+}
+
+// Both calls on the lists of a line. Its first field has the cache and the limit.
+fn both(
+    line: &[u64],
+    tracked: &[u32],
+    runs: &[u32],
+    accesses: &[u32],
+    edges: &[u32],
+    result: &mut [u64],
+    work: &mut [u64],
+) -> Got {
+    let cache = Cache {
+        sets: small(number(line, 1, 0)),
+        ways: small(number(line, 1, 1)),
+    };
+    let limit = small(number(line, 1, 2));
+    let longest = length_said(longest_path(cache, limit, tracked, runs, accesses, edges));
+    got_of(
+        longest,
+        analyse(cache, limit, tracked, runs, accesses, edges, result, work),
+    )
+}
+
+// The lists are read one after the other: the edges are the last.
+fn with_edges(
+    line: &[u64],
+    tracked: &[u32],
+    runs: &[u32],
+    accesses: &[u32],
+    edges: &mut [u32],
+    result: &mut [u64],
+    work: &mut [u64],
+) -> Got {
+    let n = list(line, 5, edges);
+    both(line, tracked, runs, accesses, &edges[0..n], result, work)
+}
+
+fn with_accesses(
+    line: &[u64],
+    tracked: &[u32],
+    runs: &[u32],
+    accesses: &mut [u32],
+    edges: &mut [u32],
+    result: &mut [u64],
+    work: &mut [u64],
+) -> Got {
+    let n = list(line, 4, accesses);
+    with_edges(line, tracked, runs, &accesses[0..n], edges, result, work)
+}
+
+fn with_runs(
+    line: &[u64],
+    tracked: &[u32],
+    runs: &mut [u32],
+    accesses: &mut [u32],
+    edges: &mut [u32],
+    result: &mut [u64],
+    work: &mut [u64],
+) -> Got {
+    let n = list(line, 3, runs);
+    with_accesses(line, tracked, &runs[0..n], accesses, edges, result, work)
+}
+
+fn with_tracked(
+    line: &[u64],
+    tracked: &mut [u32],
+    runs: &mut [u32],
+    accesses: &mut [u32],
+    edges: &mut [u32],
+    result: &mut [u64],
+    work: &mut [u64],
+) -> Got {
+    let n = list(line, 2, tracked);
+    with_runs(line, &tracked[0..n], runs, accesses, edges, result, work)
+}
+
+// Both calls on the numbers of a line, in rooms whose words are known.
+fn called(line: &[u64], result: &mut [u64], work: &mut [u64]) -> Got {
+    let mut tracked: [u32; 32] = [0; 32];
+    let mut runs: [u32; 128] = [0; 128];
+    let mut accesses: [u32; 4100] = [0; 4100];
+    let mut edges: [u32; 256] = [0; 256];
+    mark(result);
+    mark(work);
+    with_tracked(
+        line,
+        &mut tracked,
+        &mut runs,
+        &mut accesses,
+        &mut edges,
+        result,
+        work,
+    )
+}
+
+// What the longest path has to answer where the graph call answers `refusal`. It is lent no room, so 6 does not apply. In every input of
+// the graph call here that passes, one path has all accesses.
+fn compare_longest(said: Said, refusal: u64, accesses: usize, report: Report) -> Report {
+    match refusal {
+        0 | 6 => report
+            .compared(said.refusal == 0)
+            .compared(said.value == accesses as u64),
+        _ => report
+            .compared(said.refusal == refusal)
+            .compared(said.value == 0),
+    }
+}
+
+// After success: these states and this set-aside count, the result room zero behind the states, the working room zero.
+fn compare_table(
+    got: Got,
+    result: &[u64],
+    work: &[u64],
+    states: &[u64],
+    aside: u64,
+    report: Report,
+) -> Report {
+    report
+        .compared(got.refusal == 0)
+        .compared(got.states == states.len() / 3)
+        .compared(got.aside == aside)
+        .compared(has_only(result, states))
+        .compared(has_only(work, &[]))
+}
+
+// After a refusal: this number, and both rooms as they were.
+fn compare_refusal(got: Got, result: &[u64], work: &[u64], refusal: u64, report: Report) -> Report {
+    report
+        .compared(got.refusal == refusal)
+        .compared(is_marked(result))
+        .compared(is_marked(work))
+}
+
+// A worked case: the states that it got are written, and every question is put to them, in cycles with its longest path.
+fn say_case(name: &[u8], got: Got, result: &[u64], states: &[u64], report: Report) -> Report {
+    io::write_all(1, name);
+    say_states(result, got.states);
+    say(b" aside ", got.aside);
+    ask_case(name, result, got.states, got.longest.value, states, report)
+}
+
+// The longest path alone.
+fn compare_path(name: &[u8], said: Said, accesses: u64, report: Report) -> Report {
+    io::write_all(1, b"longest path: ");
+    io::write_all(1, name);
+    say(b": ", said.value);
+    report
+        .compared(said.refusal == 0)
+        .compared(said.value == accesses)
+}
+
+// What was got of a line, and the states that it has to be.
+fn compare(
+    kind: u8,
+    name: &[u8],
+    got: Got,
+    line: &[u64],
+    result: &[u64],
+    work: &[u64],
+    states: &[u64],
+    report: Report,
+) -> Report {
+    let answer = number(line, 7, 0);
+    if kind == b'p' {
+        return compare_path(name, got.longest, answer, report);
+    }
+    let aside = number(line, 7, 1);
+    let paths = compare_longest(got.longest, answer, count(line, 4), report);
+    if kind == b'w' {
+        let asked = say_case(name, got, result, states, paths);
+        return compare_table(got, result, work, states, aside, asked);
+    }
+    say_answer(b"refusals: ", name, got.refusal);
+    if answer == 0 {
+        return compare_table(got, result, work, states, aside, paths);
+    }
+    compare_refusal(got, result, work, answer, paths)
+}
+
+// A line in these rooms.
+fn graph_in(
+    kind: u8,
+    name: &[u8],
+    line: &[u64],
+    result: &mut [u64],
+    work: &mut [u64],
+    report: Report,
+) -> Report {
+    let got = called(line, result, work);
+    let from = begin(line, 8);
+    let end = begin(line, 9);
+    if end < from {
+        return report.compared(false);
+    }
+    compare(
+        kind,
+        name,
+        got,
+        line,
+        result,
+        work,
+        &line[from..end],
+        report,
+    )
+}
+
+// A line in the first words of two rooms.
+fn graph_within(
+    kind: u8,
+    name: &[u8],
+    line: &[u64],
+    result: &mut [u64],
+    work: &mut [u64],
+    report: Report,
+) -> Report {
+    let result_end = number(line, 6, 0) as usize;
+    let work_end = number(line, 6, 1) as usize;
+    if result.len() < result_end {
+        return report.compared(false);
+    }
+    if work.len() < work_end {
+        return report.compared(false);
+    }
+    graph_in(
+        kind,
+        name,
+        line,
+        &mut result[0..result_end],
+        &mut work[0..work_end],
+        report,
+    )
+}
+
+pub(crate) fn graph_line(kind: u8, name: &[u8], line: &[u64], report: Report) -> Report {
+    let mut result: [u64; 200] = [0; 200];
+    let mut work: [u64; 15560] = [0; 15560];
+    graph_within(kind, name, line, &mut result, &mut work, report)
+}

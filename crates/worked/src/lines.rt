@@ -1,0 +1,225 @@
+// The text of the cases, read line by line. A line is a word, a name, and fields of numbers behind upright strokes:
+//
+//     worked case 3: | 1 set of 1, limit 64 | 10 11 12 | 4 | 10 10 11 10 | | ..
+//
+// In a field all but digits separates numbers, and `10*4096` is 10, 4,096 times. The numbers of a line stand in one room from place 16 on, and at
+// place k of the room where field k begins; the one behind the last field begins where the numbers end.
+use crate::expected::MOST;
+use crate::expected::plus;
+ghost use Prim.Native.Nat.{_≤_, _<_};
+ghost use lib.ListN.{length};
+
+// The place of the first `mark` from place `from` on, or the end.
+pub(crate) fn find(text: &[u8], from: usize, mark: u8) -> usize
+    ensures { λ r. ⌜ r ≤ length (now (text .entry)) ⌝ }
+{
+    let mut i = from;
+    while i < text.len() {
+        if text[i] == mark {
+            return i;
+        }
+        i += 1;
+    }
+    text.len()
+}
+
+// The place behind the line that begins at place `from`.
+pub(crate) fn next_line(text: &[u8], from: usize) -> usize
+    requires { ⌜ from < length (now text) ⌝ }
+    ensures { λ r. ⌜ from < r ⌝ }
+{
+    let end = find(text, from, b'\n');
+    if text.len() <= end {
+        return text.len();
+    }
+    if end < from {
+        return from + 1;
+    }
+    end + 1
+}
+
+// What was read of a line: which field is next, where the next number belongs, the digits of the one that is being read, and the number
+// that they repeat.
+struct Scan {
+    field: usize,
+    end: usize,
+    number: u64,
+    digits: bool,
+    value: u64,
+    repeated: bool,
+}
+
+// Ten times a number and a digit; the largest number stands for one that does not fit.
+fn with_digit(n: u64, digit: u8) -> u64 {
+    if 1844674407370955161 < n {
+        return MOST;
+    }
+    plus(n * 10, digit as u64)
+}
+
+fn put(room: &mut [u64], at: usize, value: u64) {
+    if at < room.len() {
+        room[at] = value;
+    }
+}
+
+// `value` from place `from` on, up to below place `end`.
+fn put_all(room: &mut [u64], from: usize, end: usize, value: u64) {
+    let mut i = from;
+    while i < end {
+        put(room, i, value);
+        i += 1;
+    }
+}
+
+// The number ends here, if there is one.
+fn end_number(scan: Scan, room: &mut [u64]) -> Scan {
+    let mut next = scan;
+    next.number = 0;
+    next.digits = false;
+    next.repeated = false;
+    if !scan.digits {
+        return next;
+    }
+    next.end = place_behind(scan);
+    if scan.repeated {
+        put_all(room, scan.end, next.end, scan.value);
+        return next;
+    }
+    put(room, scan.end, scan.number);
+    next
+}
+
+// Where the next number belongs, at most 4,096 and 4,096 places on.
+fn place_behind(scan: Scan) -> usize {
+    if 8192 < scan.end {
+        return scan.end;
+    }
+    if !scan.repeated {
+        return scan.end + 1;
+    }
+    if 8192 < scan.number {
+        return scan.end;
+    }
+    scan.end + scan.number as usize
+}
+
+// One byte of the fields.
+fn take_byte(scan: Scan, byte: u8, room: &mut [u64]) -> Scan {
+    let mut next = scan;
+    if b'0' <= byte {
+        if byte <= b'9' {
+            next.number = with_digit(scan.number, byte - b'0');
+            next.digits = true;
+            return next;
+        }
+    }
+    if byte == b'*' {
+        next.value = scan.number;
+        next.number = 0;
+        next.repeated = true;
+        return next;
+    }
+    next = end_number(scan, room);
+    if byte == b'|' {
+        put(room, next.field, next.end as u64);
+        if next.field < 15 {
+            next.field += 1;
+        }
+    }
+    next
+}
+
+fn take_at(scan: Scan, text: &[u8], at: usize, room: &mut [u64]) -> Scan {
+    if at < text.len() {
+        return take_byte(scan, text[at], room);
+    }
+    scan
+}
+
+fn scan_fields(text: &[u8], from: usize, end: usize, room: &mut [u64]) -> Scan {
+    let mut scan = Scan {
+        field: 1,
+        end: 16,
+        number: 0,
+        digits: false,
+        value: 0,
+        repeated: false,
+    };
+    let mut i = from;
+    while i < end {
+        scan = take_at(scan, text, i, room);
+        i += 1;
+    }
+    scan
+}
+
+// The fields from place `from` of the text on, up to below `end`. Those that are not there are empty.
+pub(crate) fn read_fields(text: &[u8], from: usize, end: usize, room: &mut [u64]) {
+    let scan = scan_fields(text, from, end, room);
+    let all = end_number(scan, room);
+    put_all(room, all.field, 16, all.end as u64);
+}
+
+// Where a field begins.
+pub(crate) fn begin(line: &[u64], field: usize) -> usize
+    ensures { λ r. ⌜ r ≤ length (now (line .entry)) ⌝ }
+{
+    if line.len() <= field {
+        return 0;
+    }
+    let at = line[field] as usize;
+    if line.len() < at {
+        return 0;
+    }
+    at
+}
+
+// The number at place `i` of a field, and 0 past the field's end.
+pub(crate) fn number(line: &[u64], field: usize, i: usize) -> u64 {
+    if count(line, field) <= i {
+        return 0;
+    }
+    let from = begin(line, field);
+    if line.len() - from <= i {
+        return 0;
+    }
+    line[from + i]
+}
+
+// How many numbers a field has.
+pub(crate) fn count(line: &[u64], field: usize) -> usize {
+    if 14 < field {
+        return 0;
+    }
+    let from = begin(line, field);
+    let end = begin(line, field + 1);
+    if end <= from {
+        return 0;
+    }
+    end - from
+}
+
+// The same as 32 bits; the largest number stands for one that does not fit.
+pub(crate) fn small(n: u64) -> u32 {
+    if 4294967295 < n {
+        return 4294967295;
+    }
+    n as u32
+}
+
+// The numbers of a field, at the front of a list; and how many there are, at most as many as the list can hold.
+pub(crate) fn list(line: &[u64], field: usize, list: &mut [u32]) -> usize
+    ensures { λ r. ⌜ r ≤ length (now (list .exit)) ⌝ }
+{
+    let n = count(line, field);
+    let mut i: usize = 0;
+    while i < list.len() {
+        if n <= i {
+            return i;
+        }
+        list[i] = small(number(line, field, i));
+        i += 1;
+    }
+    i
+}
