@@ -97,7 +97,7 @@ static uint64_t *room_or_null(const struct run *run, uint64_t *room, size_t word
 static struct plain_input lists_of(const struct run *run, const struct input *input)
 {
     return (struct plain_input){
-        input->sets, input->ways, input->limit,
+        input->sets, input->ways, input->revision, input->limit,
         list_or_null(run, input->tracked, input->tracked_count), input->tracked_count,
         list_or_null(run, input->runs, input->nodes), input->nodes,
         list_or_null(run, input->accesses, input->access_count), input->access_count,
@@ -111,7 +111,7 @@ static struct plain_input lists_of(const struct run *run, const struct input *in
 static void check_graph_rooms(struct run *run, const struct input *input, const struct rooms *rooms, const struct plain_state *table,
                               size_t states)
 {
-    size_t words = 3 * states;
+    size_t words = ESTIMATE_STATE_WORDS * states;
     expect(run, memcmp(rooms->result, table, words * sizeof(uint64_t)) == 0, "finished tables");
     expect(run, words_are(rooms->result, words, input->result_words, 0), "result room beyond the table not zero");
     expect(run, words_are(rooms->result, input->result_words, INPUT_RESULT_ROOM + GUARD, PATTERN), "written beyond the result room");
@@ -122,16 +122,16 @@ static void check_graph_rooms(struct run *run, const struct input *input, const 
 /* Calls both and compares. Gives the refusal of plain C, and its table in `row`. */
 static int compare_graph(struct run *run, const struct input *input, struct rooms *rooms, struct row *row)
 {
-    struct plain_state table[INPUT_RESULT_ROOM / 3];
+    struct plain_state table[INPUT_RESULT_ROOM / ESTIMATE_STATE_WORDS];
     size_t states = PATTERN, plain_states = 0;
     uint64_t aside = PATTERN, plain_aside = PATTERN;
     const struct plain_input in = lists_of(run, input);
     fill(rooms, 0);
-    uint64_t ours = estimate_graph(in.sets, in.ways, in.limit, in.tracked, in.tracked_count, in.runs, in.nodes,
+    uint64_t ours = estimate_graph(in.sets, in.ways, in.revision, in.limit, in.tracked, in.tracked_count, in.runs, in.nodes,
                                    in.accesses, in.access_count, in.edges, in.edge_numbers,
                                    room_or_null(run, rooms->result, input->result_words), input->result_words,
                                    room_or_null(run, rooms->work, input->work_words), input->work_words, &states, &aside);
-    int plain = plain_graph(in.sets, in.ways, in.limit, in.tracked, in.tracked_count, in.runs, in.nodes,
+    int plain = plain_graph(in.sets, in.ways, in.revision, in.limit, in.tracked, in.tracked_count, in.runs, in.nodes,
                             in.accesses, in.access_count, in.edges, in.edge_numbers,
                             input->result_words, input->work_words, table, &plain_states, &plain_aside);
     run->graphs[plain]++;
@@ -146,7 +146,7 @@ static int compare_graph(struct run *run, const struct input *input, struct room
         memset(row, 0, sizeof *row);
         memcpy(row->list, table, plain_states * sizeof *table);
         row->states = plain_states;
-        row->words = 3 * plain_states;
+        row->words = ESTIMATE_STATE_WORDS * plain_states;
     }
     return plain;
 }
@@ -156,7 +156,7 @@ static uint64_t compare_longest_path(struct run *run, const struct input *input)
 {
     uint64_t longest = PATTERN, plain_longest = PATTERN;
     const struct plain_input in = lists_of(run, input);
-    uint64_t ours = estimate_longest_path(in.sets, in.ways, in.limit, in.tracked, in.tracked_count, in.runs, in.nodes,
+    uint64_t ours = estimate_longest_path(in.sets, in.ways, in.revision, in.limit, in.tracked, in.tracked_count, in.runs, in.nodes,
                                           in.accesses, in.access_count, in.edges, in.edge_numbers, &longest);
     int plain = plain_longest_path(&in, &plain_longest);
     run->longest_paths[plain]++;
@@ -169,7 +169,7 @@ static uint64_t compare_longest_path(struct run *run, const struct input *input)
 
 /* A row as the library takes it: as words, and as states. */
 struct taken {
-    uint64_t words[3 * INPUT_ROW_ROOM];
+    uint64_t words[ESTIMATE_STATE_WORDS * INPUT_ROW_ROOM];
     struct estimate_state states[INPUT_ROW_ROOM];
 };
 
@@ -178,14 +178,15 @@ static void take_row(struct taken *taken, const struct row *row)
     memcpy(taken->words, row->list, sizeof taken->words);
     for (size_t i = 0; i < INPUT_ROW_ROOM; i++)
         taken->states[i] = (struct estimate_state){
-            .mask = row->list[i].mask, .misses = row->list[i].misses, .units = row->list[i].units,
+            .mask = row->list[i].mask, .misses = row->list[i].misses, .filled = {row->list[i].filled[0], row->list[i].filled[1]},
+            .units = row->list[i].units,
         };
 }
 
 /* A row of which fewer words are lent than it has states is no table: plain C is asked about none of its states. */
 static size_t states_lent(const struct row *row)
 {
-    return row->words / 3 < row->states ? 0 : row->states;
+    return row->words / ESTIMATE_STATE_WORDS < row->states ? 0 : row->states;
 }
 
 /* The states that are lent as a row: those that plain C is asked about. */
@@ -553,14 +554,14 @@ static void print_counts(const char *name, const unsigned long *counts)
     printf("\n");
 }
 
-/* Whether every refusal from 1 to 10 occurred, the three of the questions in cycles there too, and acceptance. */
+/* Whether every refusal from 1 to 11 occurred, the three of the questions in cycles there too, and acceptance. */
 static bool all_occurred(const struct run *run)
 {
     bool all = true;
     for (int i = 0; i < NUMBERS; i++) {
         bool of_cycles = i == 0 || i == 4 || i == 7 || i == 16;
         unsigned long without_cycles = run->graphs[i] + run->questions[i] + run->texts[i];
-        if ((i <= 10 && without_cycles == 0) || (of_cycles && run->cycle_questions[i] == 0)) {
+        if ((i <= 11 && without_cycles == 0) || (of_cycles && run->cycle_questions[i] == 0)) {
             printf("error: %s %d never occurred\n", i == 0 ? "answer" : "refusal", i);
             all = false;
         }

@@ -9,8 +9,8 @@
 #define MOST_ACCESSES 4096
 
 /* Rooms that the graph call accepts, in words. */
-#define RESULT_WORDS (3 * MOST_STATES)
-#define WORK_WORDS (3 * 5184)
+#define RESULT_WORDS (PLAIN_STATE_WORDS * MOST_STATES)
+#define WORK_WORDS (PLAIN_STATE_WORDS * 5184)
 
 struct core {
     uint64_t hit, miss;
@@ -23,11 +23,12 @@ static const struct core cores[PLAIN_CORES] = {
 
 /* ---- The longest path ---- */
 
-/* The first of the refusals 1, 10 and 2 to 5 that applies, or 0: those come before 6, which the graph call gives in no room at all. */
+/* The first of the refusals 1, 10, 11 and 2 to 5 that applies, or 0: those come before 6, which the graph call gives in no room at all. */
 static int graph_refusal(const struct plain_input *graph)
 {
-    int number = plain_graph(graph->sets, graph->ways, graph->limit, graph->tracked, graph->tracked_count, graph->runs, graph->nodes,
-                             graph->accesses, graph->access_count, graph->edges, graph->edge_numbers, 0, 0, NULL, NULL, NULL);
+    int number = plain_graph(graph->sets, graph->ways, graph->revision, graph->limit, graph->tracked, graph->tracked_count,
+                             graph->runs, graph->nodes, graph->accesses, graph->access_count, graph->edges, graph->edge_numbers,
+                             0, 0, NULL, NULL, NULL);
     return number == 6 ? 0 : number;
 }
 
@@ -147,8 +148,8 @@ static int work_text(const unsigned char *text, size_t bytes, struct finished *f
     int number = plain_longest_path(&graph, &finished->longest);
     if (number != 0)
         return number;
-    plain_graph(graph.sets, graph.ways, graph.limit, graph.tracked, graph.tracked_count, graph.runs, graph.nodes,
-                graph.accesses, graph.access_count, graph.edges, graph.edge_numbers,
+    plain_graph(graph.sets, graph.ways, graph.revision, graph.limit, graph.tracked, graph.tracked_count,
+                graph.runs, graph.nodes, graph.accesses, graph.access_count, graph.edges, graph.edge_numbers,
                 RESULT_WORDS, WORK_WORDS, finished->row, &finished->states, &finished->aside);
     return plain_spread(finished->row, finished->states, finished->counts, MOST_ACCESSES + 1, &finished->largest);
 }

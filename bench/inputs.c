@@ -7,8 +7,9 @@
 
 #define WHOLE PLAIN_WHOLE
 #define MOST_POOL 24
-#define ENOUGH_RESULT 192
-#define ENOUGH_WORK 15552
+#define WORDS PLAIN_STATE_WORDS
+#define ENOUGH_RESULT (WORDS * 64)
+#define ENOUGH_WORK (WORDS * 5184)
 
 /* ---- The generator ---- */
 
@@ -70,16 +71,32 @@ static void make_pool(struct generator *from, uint32_t *pool, size_t count)
 }
 
 /* The tracked blocks are the first of a pool; the accesses are drawn from all of it, in every second input often the one before again. */
-static void make_blocks(struct generator *from, struct input *input, size_t pool_count)
+static void take_blocks(struct generator *from, struct input *input, const uint32_t *pool, size_t pool_count)
 {
-    uint32_t pool[MOST_POOL];
     bool again = one_in(from, 2);
-    make_pool(from, pool, pool_count);
     memcpy(input->tracked, pool, input->tracked_count * sizeof *pool);
     for (size_t i = 0; i < input->access_count; i++) {
         bool repeated = again && i > 0 && one_in(from, 3);
         input->accesses[i] = repeated ? input->accesses[i - 1] : pool[draw_below(from, (uint32_t)pool_count)];
     }
+}
+
+static void make_blocks(struct generator *from, struct input *input, size_t pool_count)
+{
+    uint32_t pool[MOST_POOL];
+    make_pool(from, pool, pool_count);
+    take_blocks(from, input, pool, pool_count);
+}
+
+/* Blocks of two sets, most of them of one; a few are tracked. */
+static void make_blocks_in_two_sets(struct generator *from, struct input *input)
+{
+    uint32_t pool[MOST_POOL], one = draw_below(from, input->sets), two = (one + draw_between(from, 1, input->sets - 1)) % input->sets;
+    uint32_t count = draw_between(from, 4, 7);
+    for (uint32_t i = 0; i < count; i++)
+        pool[i] = (i == 0 || one_in(from, 4) ? two : one) + input->sets * i;
+    input->tracked_count = draw_between(from, 2, 4);
+    take_blocks(from, input, pool, count);
 }
 
 /* Cuts the accesses into a run for each node, by random cuts in order; some runs are empty. */
@@ -138,7 +155,7 @@ static void make_edges(struct generator *from, struct input *input, uint32_t tim
 /* Rooms that are enough, exactly or with some words over. */
 static void make_rooms(struct generator *from, struct input *input)
 {
-    input->result_words = one_in(from, 2) ? ENOUGH_RESULT : 3 * (size_t)input->limit + draw_below(from, 60);
+    input->result_words = one_in(from, 2) ? ENOUGH_RESULT : WORDS * (size_t)input->limit + draw_below(from, 60);
     input->work_words = one_in(from, 2) ? ENOUGH_WORK : ENOUGH_WORK + draw_below(from, 40);
 }
 
@@ -150,18 +167,41 @@ static uint32_t draw_access_count(struct generator *from, uint32_t nodes)
     return nodes * for_each + draw_between(from, 0, most[draw_below(from, 8)]);
 }
 
-void make_random_input(struct generator *from, struct input *input)
+/* Sets, ways and blocks of every kind. */
+static void choose_any(struct generator *from, struct input *input)
 {
-    input->sets = one_in(from, 2) ? 1 : 2u << draw_below(from, 4);
     static const uint32_t most_ways[4] = {2, 4, 8, 16}, most_limit[4] = {3, 8, 24, 64};
     static const uint32_t most_nodes[8] = {1, 1, 3, 4, 6, 10, 20, 64};
+    input->sets = one_in(from, 2) ? 1 : 2u << draw_below(from, 4);
     input->ways = draw_between(from, 1, most_ways[draw_below(from, 4)]);
+    input->revision = draw_between(from, 1, 2);
     input->limit = draw_between(from, 1, most_limit[draw_below(from, 4)]);
     input->nodes = draw_between(from, 1, most_nodes[draw_below(from, 8)]);
     input->access_count = draw_access_count(from, (uint32_t)input->nodes);
     size_t pool = draw_between(from, 1, one_in(from, 2) ? 6 : MOST_POOL);
     input->tracked_count = draw_between(from, 0, pool > 16 ? 16 : (uint32_t)pool);
     make_blocks(from, input, pool);
+}
+
+/* The second revision with few ways, which are soon filled and do not always divide units evenly. What a remainder, a fold or a join
+ * forgets of a set is missed there later, so that states come to differ in filled numbers alone. */
+static void choose_filling(struct generator *from, struct input *input)
+{
+    input->sets = 2u << draw_below(from, 4);
+    input->ways = one_in(from, 4) ? draw_between(from, 2, 5) : 3;
+    input->revision = 2;
+    input->limit = draw_between(from, 8, 16);
+    input->nodes = one_in(from, 4) ? draw_between(from, 2, 4) : 1;
+    input->access_count = draw_between(from, 12, 40);
+    make_blocks_in_two_sets(from, input);
+}
+
+void make_random_input(struct generator *from, struct input *input)
+{
+    if (one_in(from, 5))
+        choose_filling(from, input);
+    else
+        choose_any(from, input);
     make_runs(from, input);
     make_edges(from, input, draw_between(from, 2, 40));
     make_rooms(from, input);
@@ -183,7 +223,7 @@ void make_border_input(struct generator *from, struct input *input)
     make_blocks(from, input, 16 + draw_below(from, 3));
     make_runs(from, input);
     make_edges(from, input, many_edges ? 1 : 20);
-    input->result_words = 3 * (size_t)input->limit;
+    input->result_words = WORDS * (size_t)input->limit;
     input->work_words = ENOUGH_WORK;
 }
 
@@ -192,14 +232,16 @@ void make_border_input(struct generator *from, struct input *input)
 static void damage_bounds(struct generator *from, struct input *input)
 {
     static const uint32_t wrong_ways[4] = {0, 17, 4294967295u, 256}, wrong_limit[4] = {0, 65, 4294967295u, 256};
-    static const uint32_t wrong_sets[8] = {0, 3, 6, 12, 15, 17, 32, 2147483648u};
-    uint32_t which = draw_below(from, 3);
+    static const uint32_t wrong_sets[8] = {0, 3, 6, 12, 15, 17, 32, 2147483648u}, wrong_revision[4] = {0, 3, 4294967295u, 257};
+    uint32_t which = draw_below(from, 4);
     if (which == 0 || one_in(from, 4))
         input->ways = wrong_ways[draw_below(from, 4)];
     if (which == 1 || one_in(from, 4))
         input->limit = wrong_limit[draw_below(from, 4)];
     if (which == 2 || one_in(from, 4))
         input->sets = wrong_sets[draw_below(from, 8)];
+    if (which == 3 || one_in(from, 4))
+        input->revision = wrong_revision[draw_below(from, 4)];
 }
 
 /* A tracked block twice, or 17 different ones; sometimes 16, which is legal. */
@@ -368,7 +410,7 @@ static void damage_edges(struct generator *from, struct input *input)
 /* Rooms one word short, exactly enough, of no words or of any number. */
 static void damage_rooms(struct generator *from, struct input *input)
 {
-    uint32_t needed = 3 * (input->limit <= 64 ? input->limit : 64);
+    uint32_t needed = WORDS * (input->limit <= 64 ? input->limit : 64);
     switch (draw_below(from, 6)) {
     case 0:
         input->result_words = needed > 0 ? needed - 1 : 0;
@@ -416,13 +458,29 @@ void damage_input(struct generator *from, struct input *input)
 
 static bool comes_before(const struct plain_state *a, const struct plain_state *b)
 {
-    return a->mask < b->mask || (a->mask == b->mask && a->misses < b->misses);
+    const uint64_t numbers[4] = {a->mask, a->misses, a->filled[0], a->filled[1]};
+    const uint64_t others[4] = {b->mask, b->misses, b->filled[0], b->filled[1]};
+    for (size_t i = 0; i < 4; i++) {
+        if (numbers[i] != others[i])
+            return numbers[i] < others[i];
+    }
+    return false;
 }
 
-/* Puts a state of 0 units where it belongs, unless there is one of its mask and misses. */
-static void place_state(struct row *row, uint64_t mask, uint64_t misses)
+/* Filled numbers up to so many: the same in every set, or in some sets any number. */
+static void fill_sets(struct generator *from, struct plain_state *state, uint32_t most)
 {
-    const struct plain_state state = {mask, misses, 0};
+    uint64_t same = draw_between(from, 0, most);
+    bool any = one_in(from, 2);
+    for (unsigned set = 0; set < 16; set++) {
+        uint64_t number = any && one_in(from, 4) ? draw_between(from, 0, most) : same;
+        state->filled[set / 8] |= number << (56 - 8 * (set % 8));
+    }
+}
+
+/* Puts a state of 0 units where it belongs, unless there is an equal one. */
+static void place_state(struct row *row, struct plain_state state)
+{
     size_t place = 0;
     while (place < row->states && comes_before(&row->list[place], &state))
         place++;
@@ -449,19 +507,22 @@ static void deal_units(struct generator *from, struct row *row)
 
 void make_row(struct generator *from, struct row *row)
 {
-    static const uint32_t most_mask[3] = {3, 255, 65535}, most_misses[4] = {0, 5, 60, 4096};
-    uint32_t masks = most_mask[draw_below(from, 3)], misses = most_misses[draw_below(from, 4)];
+    static const uint32_t most_mask[3] = {3, 255, 65535}, most_misses[4] = {0, 5, 60, 4096}, most_filled[3] = {0, 4, 16};
+    uint32_t masks = most_mask[draw_below(from, 3)], misses = most_misses[draw_below(from, 4)], filled = most_filled[draw_below(from, 3)];
     size_t wanted = one_in(from, 4) ? 64 : draw_between(from, 1, 64);
     memset(row, 0, sizeof *row);
     if (one_in(from, 4))
-        place_state(row, 65535, 4096);
-    for (int tries = 0; tries < 200 && row->states < wanted; tries++)
-        place_state(row, draw_between(from, 0, masks), draw_between(from, 0, misses));
+        place_state(row, (struct plain_state){.mask = 65535, .misses = 4096});
+    for (int tries = 0; tries < 200 && row->states < wanted; tries++) {
+        struct plain_state state = {.mask = draw_between(from, 0, masks), .misses = draw_between(from, 0, misses)};
+        fill_sets(from, &state, filled);
+        place_state(row, state);
+    }
     deal_units(from, row);
-    row->words = 3 * row->states + draw_below(from, 8);
+    row->words = WORDS * row->states + draw_below(from, 8);
 }
 
-/* Splits a state into two of the same mask and misses. */
+/* Splits a state into two that are equal. */
 static void split_state(struct row *row, size_t place)
 {
     struct plain_state *at = &row->list[place];
@@ -479,7 +540,7 @@ static void lengthen_row(struct row *row, size_t wanted)
         most = row->list[i].units > row->list[most].units ? i : most;
     for (; row->states < wanted; row->states++) {
         const struct plain_state *last = &row->list[row->states - 1];
-        row->list[row->states] = (struct plain_state){65535, last->mask == 65535 ? last->misses + 1 : 0, 1};
+        row->list[row->states] = (struct plain_state){.mask = 65535, .misses = last->mask == 65535 ? last->misses + 1 : 0, .units = 1};
         row->list[most].units--;
     }
 }
@@ -510,6 +571,28 @@ static void damage_units(struct generator *from, struct row *row)
         break;
     default:
         row->list[one].units = draw(from);
+        break;
+    }
+}
+
+/* Damage to filled numbers: one too large or at the most, all of them any number, or those of two states exchanged. */
+static void damage_filled(struct generator *from, struct row *row)
+{
+    static const uint64_t wrong[4] = {16, 17, 128, 255};
+    struct plain_state *one = &row->list[draw_below(from, (uint32_t)row->states)];
+    struct plain_state *two = &row->list[draw_below(from, (uint32_t)row->states)];
+    size_t word = draw_below(from, 2), shift = 8 * draw_below(from, 8);
+    uint64_t kept = one->filled[word];
+    switch (draw_below(from, 4)) {
+    case 0:
+        one->filled[word] = draw(from);
+        break;
+    case 1:
+        one->filled[word] = two->filled[word];
+        two->filled[word] = kept;
+        break;
+    default:
+        one->filled[word] = (kept & ~((uint64_t)255 << shift)) | wrong[draw_below(from, 4)] << shift;
         break;
     }
 }
@@ -555,26 +638,28 @@ static void damage_length(struct generator *from, struct row *row)
         row->states++;
         break;
     case 3:
-        row->words = 3 * row->states - draw_between(from, 1, 3);
+        row->words = WORDS * row->states - draw_between(from, 1, WORDS);
         return;
     default:
         lengthen_row(row, draw_between(from, 64, 65));
         break;
     }
-    row->words = 3 * row->states + draw_below(from, 3);
+    row->words = WORDS * row->states + draw_below(from, WORDS);
 }
 
 void damage_row(struct generator *from, struct row *row)
 {
-    uint32_t kind = draw_below(from, 3);
+    uint32_t kind = draw_below(from, 4);
     if (kind == 0)
         damage_units(from, row);
     else if (kind == 1)
         damage_place(from, row);
-    else
+    else if (kind == 2)
         damage_length(from, row);
+    else
+        damage_filled(from, row);
     if (kind != 2)
-        row->words = 3 * row->states + draw_below(from, 8);
+        row->words = WORDS * row->states + draw_below(from, 8);
 }
 
 /* ---- Texts ---- */
@@ -789,6 +874,7 @@ static void make_straight_run(struct input *input, enum order order, size_t acce
 {
     struct generator from = generator_of(2, order);
     input->sets = 1;
+    input->revision = 1;
     input->ways = ways;
     input->limit = limit;
     input->tracked_count = 16;
@@ -803,11 +889,12 @@ static void make_straight_run(struct input *input, enum order order, size_t acce
     input->work_words = ENOUGH_WORK;
 }
 
-/* The random run in so many sets of four ways, over which the tracked blocks are spread evenly. */
-static void make_run_in_sets(struct input *input, uint32_t sets)
+/* The random run in four sets of three ways, over which the tracked blocks are spread evenly, on the core of that revision. */
+static void make_run_in_sets(struct input *input, uint32_t revision)
 {
-    make_straight_run(input, RANDOM, 4096, 4, 64);
-    input->sets = sets;
+    make_straight_run(input, RANDOM, 4096, 3, 64);
+    input->sets = 4;
+    input->revision = revision;
     for (size_t i = 0; i < input->access_count; i++)
         input->accesses[i] = 1000 + (input->accesses[i] - 1000) / 64;
     for (uint32_t i = 0; i < 16; i++)
@@ -829,7 +916,8 @@ static void make_wide_graph(struct input *input, uint32_t reach)
 const char *make_heavy_input(size_t which, struct input *input)
 {
     static const char *const names[HEAVY_INPUTS + GROWTH_INPUTS] = {
-        "shuffled", "random", "cyclic", "random-8-ways", "random-limit-8", "graph-two-edges", "graph-all-edges", "random-4-sets",
+        "shuffled", "random", "cyclic", "random-8-ways", "random-limit-8", "graph-two-edges", "graph-all-edges",
+        "random-4-sets", "random-revision-2",
         "random-512", "random-1024", "random-2048", "random-4096",
     };
     if (which >= HEAVY_INPUTS + GROWTH_INPUTS)
@@ -842,8 +930,8 @@ const char *make_heavy_input(size_t which, struct input *input)
         make_straight_run(input, RANDOM, 4096, 16, 8);
     else if (which < 7)
         make_wide_graph(input, which == 5 ? 2 : 63);
-    else if (which == 7)
-        make_run_in_sets(input, 4);
+    else if (which < 9)
+        make_run_in_sets(input, which == 7 ? 1 : 2);
     else
         make_straight_run(input, RANDOM, (size_t)512 << (which - HEAVY_INPUTS), 16, 64);
     return names[which];

@@ -14,8 +14,8 @@
 #define INPUT_NODES_ROOM 68
 #define INPUT_ACCESSES_ROOM 4100
 #define INPUT_EDGES_ROOM 4100
-#define INPUT_RESULT_ROOM 256
-#define INPUT_WORK_ROOM 15600
+#define INPUT_RESULT_ROOM 400
+#define INPUT_WORK_ROOM 26000
 #define INPUT_ROW_ROOM 68
 
 /* Room for more numbers and more bytes than a text may have. */
@@ -29,7 +29,7 @@ struct generator {
 
 /* Everything the graph call takes; the rooms are how many words are lent. */
 struct input {
-    uint32_t sets, ways, limit;
+    uint32_t sets, ways, revision, limit;
     size_t tracked_count, nodes, access_count, edge_numbers, result_words, work_words;
     uint32_t tracked[INPUT_TRACKED_ROOM];
     uint32_t runs[INPUT_NODES_ROOM];
@@ -37,7 +37,7 @@ struct input {
     uint32_t edges[INPUT_EDGES_ROOM];
 };
 
-/* A row of states as it is put to the questions: `words` is how much of it is lent, a third as many states. */
+/* A row of states as it is put to the questions: `words` is how much of it is lent, a fifth as many states. */
 struct row {
     size_t states, words;
     struct plain_state list[INPUT_ROW_ROOM];
@@ -79,7 +79,7 @@ void damage_text(struct generator *from, struct text *text);
 
 /* The heavy inputs by number from 0; those from HEAVY_INPUTS on are for growth, with rising numbers of accesses. Gives the name, or NULL
  * past the last. */
-#define HEAVY_INPUTS 8
+#define HEAVY_INPUTS 9
 #define GROWTH_INPUTS 4
 const char *make_heavy_input(size_t which, struct input *input);
 

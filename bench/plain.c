@@ -1,4 +1,5 @@
-/* Document 01 in plain C, with requests 1/13, 3/13 and 4/13 of document 02. The section or clause that a function follows stands above it. */
+/* Document 01 in plain C, with requests 1/13, 3/13, 4/13, 6/13 and 12/13 of document 02. The clause that a function follows stands above
+ * it. */
 #include "plain.h"
 
 #include <inttypes.h>
@@ -13,7 +14,8 @@
 #define MOST_NODES 64
 #define MOST_ACCESSES 4096
 #define MOST_MASK 65535
-#define STATE_WORDS 3
+#define MOST_FILLED 16
+#define STATE_WORDS PLAIN_STATE_WORDS
 #define WORKING_STATES 5184
 
 /* Section 7: the longest text, the most digits of a number. */
@@ -44,10 +46,20 @@ struct node_table {
 
 /* ---- Tables in order ---- */
 
-/* Section 3, the order of a table: by mask as a number, then by misses. */
+/* 6/13: "Table order is mask, misses, filled numbers, set 0 first." */
 static bool is_before(const struct plain_state *a, const struct plain_state *b)
 {
-    return a->mask < b->mask || (a->mask == b->mask && a->misses < b->misses);
+    if (a->mask != b->mask)
+        return a->mask < b->mask;
+    if (a->misses != b->misses)
+        return a->misses < b->misses;
+    return a->filled[0] != b->filled[0] ? a->filled[0] < b->filled[0] : a->filled[1] < b->filled[1];
+}
+
+/* 6/13: "States are added together only where all of these are equal". */
+static bool are_alike(const struct plain_state *a, const struct plain_state *b)
+{
+    return a->mask == b->mask && a->misses == b->misses && a->filled[0] == b->filled[0] && a->filled[1] == b->filled[1];
 }
 
 /* The place of the first state of the table that is not before the given one. */
@@ -64,20 +76,19 @@ static size_t find_place(const struct table *table, const struct plain_state *st
     return low;
 }
 
-/* Section 3: "States with equal mask and misses are added together; states of 0 units vanish." */
-static void put(struct table *table, uint64_t mask, uint64_t misses, uint64_t units)
+/* Section 3: equal states "are added together; states of 0 units vanish." */
+static void put(struct table *table, const struct plain_state *state)
 {
-    const struct plain_state state = {mask, misses, units};
-    if (units == 0)
+    if (state->units == 0)
         return;
-    size_t place = find_place(table, &state);
+    size_t place = find_place(table, state);
     struct plain_state *at = &table->states[place];
-    if (place < table->count && at->mask == mask && at->misses == misses) {
-        at->units += units;
+    if (place < table->count && are_alike(at, state)) {
+        at->units += state->units;
         return;
     }
     memmove(at + 1, at, (table->count - place) * sizeof *at);
-    *at = state;
+    *at = *state;
     table->count++;
 }
 
@@ -95,13 +106,6 @@ static void copy_states(struct table *to, const struct plain_state *states, size
     to->count = count;
 }
 
-/* Section 3, the start: "one state: nothing held, 0 misses, WHOLE units". */
-static void start_table(struct table *table)
-{
-    table->count = 1;
-    table->states[0] = (struct plain_state){0, 0, WHOLE};
-}
-
 /* Section 3: "The set-aside count over all nodes stops at WHOLE". No amount of units is above WHOLE. */
 static void set_aside(uint64_t *aside, uint64_t units)
 {
@@ -112,6 +116,52 @@ static void set_aside(uint64_t *aside, uint64_t units)
 static unsigned block_count(uint64_t mask)
 {
     return (unsigned)__builtin_popcount((unsigned)mask);
+}
+
+/* ---- 6/13, filled numbers ---- */
+
+/* Where the filled number of a set stands: in which word, and how far up. */
+struct filled_place {
+    size_t word;
+    unsigned shift;
+};
+
+static struct filled_place place_of_set(uint32_t set)
+{
+    return (struct filled_place){set / 8, 56 - 8 * (set % 8)};
+}
+
+/* The larger of each two bytes, all of them below 128. */
+static uint64_t larger_bytes(uint64_t a, uint64_t b)
+{
+    const uint64_t high = 0x8080808080808080u;
+    uint64_t at_least = (((a | high) - b) & high) >> 7;
+    uint64_t of_a = at_least * 255;
+    return (a & of_a) | (b & ~of_a);
+}
+
+/* Section 3, the start: "one state: nothing held, 0 misses, WHOLE units". 6/13: "The number is 0 at the start"; "For the first revision the
+ * numbers are all N"; "sets beyond the count have 0". */
+static void start_table(struct table *table, const struct plain_input *graph)
+{
+    uint64_t number = graph->revision == 2 ? 0 : graph->ways;
+    table->count = 1;
+    table->states[0] = (struct plain_state){.units = WHOLE};
+    for (uint32_t set = 0; set < graph->sets; set++) {
+        struct filled_place place = place_of_set(set);
+        table->states[0].filled[place.word] |= number << place.shift;
+    }
+}
+
+/* What two states become in a fold or a join: "the shared blocks, the larger miss count"; 6/13: "the larger at a fold or join". */
+static struct plain_state made_one(const struct plain_state *a, const struct plain_state *b, uint64_t units)
+{
+    return (struct plain_state){
+        .mask = a->mask & b->mask,
+        .misses = a->misses > b->misses ? a->misses : b->misses,
+        .filled = {larger_bytes(a->filled[0], b->filled[0]), larger_bytes(a->filled[1], b->filled[1])},
+        .units = units,
+    };
 }
 
 /* ---- Section 3, the fold ---- */
@@ -152,22 +202,21 @@ static size_t find_partner(const struct table *table, size_t one)
     return found;
 }
 
-/* "Both are replaced by one: the shared blocks, the larger miss count, the summed units [...] The units of each of the two whose mask
- * or misses changed are added to the set-aside count." */
+/* "Both are replaced by one [...] The units of each of the two whose mask or misses changed are added to the set-aside count." 6/13: "a
+ * state whose filled numbers alone change in a fold counts as changed". */
 static void fold_once(struct table *table, uint64_t *aside)
 {
     size_t one = find_fewest(table);
     size_t two = find_partner(table, one);
     const struct plain_state a = table->states[one], b = table->states[two];
-    uint64_t mask = a.mask & b.mask;
-    uint64_t misses = a.misses > b.misses ? a.misses : b.misses;
-    if (a.mask != mask || a.misses != misses)
+    const struct plain_state folded = made_one(&a, &b, a.units + b.units);
+    if (!are_alike(&a, &folded))
         set_aside(aside, a.units);
-    if (b.mask != mask || b.misses != misses)
+    if (!are_alike(&b, &folded))
         set_aside(aside, b.units);
     take_out(table, one > two ? one : two);
     take_out(table, one > two ? two : one);
-    put(table, mask, misses, a.units + b.units);
+    put(table, &folded);
 }
 
 /* "Fold, after each access and each join, only while more than K states remain" */
@@ -189,9 +238,11 @@ static uint64_t look_up(const struct plain_input *graph, uint32_t block)
     return 0;
 }
 
-/* What an access is aimed at: the bit of its block, or 0, and the bits of the tracked blocks of its set, which a miss can evict. */
+/* What an access is aimed at: the bit of its block, or 0; the bits of the tracked blocks of its set, which a miss can evict; and where that
+ * set's filled number stands. */
 struct target {
     uint64_t bit, mates;
+    struct filled_place filled;
 };
 
 /* 1/13: "a block belongs to the set given by its number modulo the set count" */
@@ -202,30 +253,50 @@ static void find_mates(const struct plain_input *graph, uint64_t mates[MOST_SETS
         mates[graph->tracked[i] % graph->sets] |= (uint64_t)1 << i;
 }
 
+/* Counts a miss; gives the blocks that it can evict. 6/13: "one more at each miss up to N [...] While it is below N the miss evicts
+ * nothing, sets nothing aside, and moves all units to contents with the accessed block." */
+static uint64_t count_miss(struct plain_state *state, struct target to, uint32_t ways)
+{
+    uint64_t number = state->filled[to.filled.word] >> to.filled.shift & 255;
+    state->misses++;
+    if (number >= ways)
+        return state->mask & to.mates;
+    state->filled[to.filled.word] += (uint64_t)1 << to.filled.shift;
+    return 0;
+}
+
 /* "Access to block b, from a state holding set C, with m misses and w units". 1/13: "q units go to the loss of each held block of that set,
  * and (N - held blocks of that set)xq to losing none. The remainder goes where it did." 4/13: "When a missing state holds no known block
- * (of the accessed set), all ways lead to one successor. The remainder then goes there and is not added to the set-aside count." */
+ * (of the accessed set), all ways lead to one successor. The remainder then goes there and is not added to the set-aside count." 6/13:
+ * "Remainders keep the miss's filled numbers." */
 static void step_from(struct table *next, const struct plain_state *from, struct target to, uint32_t ways, uint64_t *aside)
 {
     if ((from->mask & to.bit) != 0) {
-        put(next, from->mask, from->misses, from->units);
+        put(next, from);
         return;
     }
-    uint64_t misses = from->misses + 1;
-    uint64_t at_risk = from->mask & to.mates;
+    struct plain_state miss = *from;
+    uint64_t at_risk = count_miss(&miss, to, ways);
+    miss.mask = from->mask | to.bit;
     if (at_risk == 0) {
-        put(next, from->mask | to.bit, misses, from->units);
+        put(next, &miss);
         return;
     }
     uint64_t share = from->units / ways;
     uint64_t rest = from->units - share * ways;
+    miss.units = (ways - block_count(at_risk)) * share;
+    put(next, &miss);
+    miss.units = share;
     for (unsigned i = 0; i < MOST_TRACKED; i++) {
         uint64_t evicted = (uint64_t)1 << i;
-        if ((at_risk & evicted) != 0)
-            put(next, (from->mask & ~evicted) | to.bit, misses, share);
+        if ((at_risk & evicted) != 0) {
+            miss.mask = (from->mask & ~evicted) | to.bit;
+            put(next, &miss);
+        }
     }
-    put(next, from->mask | to.bit, misses, (ways - block_count(at_risk)) * share);
-    put(next, to.bit, misses, rest);
+    miss.mask = to.bit;
+    miss.units = rest;
+    put(next, &miss);
     set_aside(aside, rest);
 }
 
@@ -251,8 +322,8 @@ static void work_run(struct table *table, struct last *last, const struct plain_
 {
     struct table next;
     for (size_t i = first; i < first + length; i++) {
-        uint32_t block = graph->accesses[i];
-        struct target to = {look_up(graph, block), mates[block % graph->sets]};
+        uint32_t block = graph->accesses[i], set = block % graph->sets;
+        struct target to = {look_up(graph, block), mates[set], place_of_set(set)};
         if (is_repeated(last, to.bit, block))
             continue;
         step(table, &next, to, graph, aside);
@@ -273,7 +344,8 @@ static void join(struct table *joined, const struct table *left, const struct no
     while (i < left->count && j < right->count) {
         const struct plain_state *a = &left->states[i], *b = &right->states[j];
         uint64_t paired = left_units < right_units ? left_units : right_units;
-        put(joined, a->mask & b->mask, a->misses > b->misses ? a->misses : b->misses, paired);
+        const struct plain_state pair = made_one(a, b, paired);
+        put(joined, &pair);
         left_units -= paired;
         right_units -= paired;
         if (left_units == 0 && ++i < left->count)
@@ -313,12 +385,12 @@ static void work_nodes(const struct plain_input *graph, struct table *table, uin
 {
     struct node_table done[MOST_NODES];
     uint64_t mates[MOST_SETS];
-    struct last last = {false, 0};
+    struct last last = {false, 0}; /* 12/13: "Before the first access no last block is known." */
     size_t edge = 0, first = 0;
     find_mates(graph, mates);
     for (size_t node = 0; node < graph->nodes; node++) {
         if (node == 0)
-            start_table(table);
+            start_table(table, graph);
         else
             edge = enter_node(table, &last, graph, done, node, edge, aside);
         work_run(table, &last, graph, mates, first, graph->runs[node], aside);
@@ -401,13 +473,16 @@ static bool sets_accepted(uint32_t sets)
     return sets == 1 || sets == 2 || sets == 4 || sets == 8 || sets == 16;
 }
 
-/* "Checked in this order; the first that applies is given." 1/13: "10, another set count, directly after 1" */
+/* "Checked in this order; the first that applies is given." 1/13: "10, another set count, directly after 1". 6/13: "11, a revision other
+ * than 1 or 2, after 10" */
 static int refusal(const struct plain_input *graph, size_t result_words, size_t work_words)
 {
     if (graph->ways < 1 || graph->ways > MOST_WAYS)
         return 1;
     if (!sets_accepted(graph->sets))
         return 10;
+    if (graph->revision != 1 && graph->revision != 2)
+        return 11;
     if (graph->limit < 1 || graph->limit > MOST_STATES)
         return 2;
     if (!tracked_accepted(graph))
@@ -421,7 +496,7 @@ static int refusal(const struct plain_input *graph, size_t result_words, size_t 
     return 0;
 }
 
-int plain_graph(uint32_t sets, uint32_t ways, uint32_t limit,
+int plain_graph(uint32_t sets, uint32_t ways, uint32_t revision, uint32_t limit,
                 const uint32_t *tracked, size_t tracked_count,
                 const uint32_t *runs, size_t nodes,
                 const uint32_t *accesses, size_t access_count,
@@ -430,7 +505,7 @@ int plain_graph(uint32_t sets, uint32_t ways, uint32_t limit,
                 struct plain_state *table, size_t *states, uint64_t *aside)
 {
     const struct plain_input graph = {
-        sets, ways, limit, tracked, tracked_count, runs, nodes, accesses, access_count, edges, edge_numbers,
+        sets, ways, revision, limit, tracked, tracked_count, runs, nodes, accesses, access_count, edges, edge_numbers,
     };
     struct table finished;
     int number = refusal(&graph, result_words, work_words);
@@ -446,8 +521,16 @@ int plain_graph(uint32_t sets, uint32_t ways, uint32_t limit,
 
 /* ---- Section 4, the questions ---- */
 
+/* Whether every byte is at most 16: none reaches 128, also with 111 more in its low bits. */
+static bool bytes_fit(uint64_t word)
+{
+    const uint64_t high = 0x8080808080808080u, more = (uint64_t)(127 - MOST_FILLED) * 0x0101010101010101u;
+    return ((((word & ~high) + more) | word) & high) == 0;
+}
+
 /* "Accepted as a table: 1 to 64 states, rising as above, masks at most 65,535, misses at most 4,096, each state with at least 1 unit, and
- * a true total (not one that wrapped) of exactly WHOLE." The total is kept at WHOLE or below, so it cannot wrap. */
+ * a true total (not one that wrapped) of exactly WHOLE." The total is kept at WHOLE or below, so it cannot wrap. 6/13: "A table handed in
+ * may have filled numbers up to 16." */
 bool plain_is_table(const struct plain_state *row, size_t states)
 {
     uint64_t total = 0;
@@ -455,6 +538,8 @@ bool plain_is_table(const struct plain_state *row, size_t states)
         return false;
     for (size_t i = 0; i < states; i++) {
         if (row[i].mask > MOST_MASK || row[i].misses > MOST_ACCESSES)
+            return false;
+        if (!bytes_fit(row[i].filled[0]) || !bytes_fit(row[i].filled[1]))
             return false;
         if (row[i].units < 1 || row[i].units > WHOLE - total)
             return false;
@@ -601,10 +686,11 @@ static bool take_list(struct plain_numbers *numbers, size_t each, const uint32_t
 }
 
 /* "ways, K, tracked count, tracked blocks, node count, run lengths, access count, accesses, edge count, edges. Anything else, a missing
- * number or one left over gives 9." 1/13: "the curve program keeps one" set. */
+ * number or one left over gives 9." 1/13: "the curve program keeps one" set. 6/13: it "stays on the first revision". */
 static bool take_graph(struct plain_numbers *numbers, struct plain_input *graph)
 {
     graph->sets = 1;
+    graph->revision = 1;
     return take_number(numbers, &graph->ways)
         && take_number(numbers, &graph->limit)
         && take_list(numbers, 1, &graph->tracked, &graph->tracked_count)
@@ -663,8 +749,8 @@ size_t plain_curve(const unsigned char *text, size_t bytes, unsigned char *outpu
     uint64_t aside;
     if (!plain_read(text, bytes, &numbers, &graph))
         return write_refusal(output, 9);
-    int number = plain_graph(graph.sets, graph.ways, graph.limit, graph.tracked, graph.tracked_count, graph.runs, graph.nodes,
-                             graph.accesses, graph.access_count, graph.edges, graph.edge_numbers,
+    int number = plain_graph(graph.sets, graph.ways, graph.revision, graph.limit, graph.tracked, graph.tracked_count,
+                             graph.runs, graph.nodes, graph.accesses, graph.access_count, graph.edges, graph.edge_numbers,
                              MOST_STATES * STATE_WORDS, WORKING_STATES * STATE_WORDS, row, &states, &aside);
     if (number != 0)
         return write_refusal(output, number);

@@ -1,5 +1,6 @@
-/* Document 01 in plain C, with requests 1/13, 3/13 and 4/13 of document 02: the graph call (sections 2, 3 and 5), the questions (section 4)
- * and the curve as text (section 7). It is what the proved library is compared with and measured against. No state is kept between calls. */
+/* Document 01 in plain C, with requests 1/13, 3/13, 4/13 and 6/13 of document 02: the graph call (sections 2, 3 and 5), the
+ * questions (section 4) and the curve as text (section 7). It is what the proved library is compared with and measured against. No state
+ * is kept between calls. */
 #ifndef PLAIN_H
 #define PLAIN_H
 
@@ -14,14 +15,16 @@
 #define PLAIN_OUTPUT_BYTES 262144
 #define PLAIN_NUMBERS 16384
 
-/* A state: the contents mask, the misses and the units. */
+/* A state: the contents mask, the misses, the filled numbers (6/13) and the units. The filled numbers are a byte for each of 16 sets, set 0
+ * the highest byte of the first word, so that words compare as numbers do, set 0 first. */
 struct plain_state {
-    uint64_t mask, misses, units;
+    uint64_t mask, misses, filled[2], units;
 };
+#define PLAIN_STATE_WORDS 5
 
-/* What comes in (section 2, and the sets of 1/13). */
+/* What comes in (section 2, the sets of 1/13 and the revision of 6/13). */
 struct plain_input {
-    uint32_t sets, ways, limit;
+    uint32_t sets, ways, revision, limit;
     const uint32_t *tracked;
     size_t tracked_count;
     const uint32_t *runs;
@@ -38,10 +41,10 @@ struct plain_numbers {
     size_t count, taken;
 };
 
-/* The graph call. Gives 0, or the number of the first of the refusals 1, 10 and 2 to 6 that applies, and then writes nothing. A room of so
- * many words holds a third as many states; `table` is the result room, and is zero beyond the finished table. The working room is only
+/* The graph call. Gives 0, or the number of the first of the refusals 1, 10, 11 and 2 to 6 that applies, and then writes nothing. A room of
+ * so many words holds a fifth as many states; `table` is the result room, and is zero beyond the finished table. The working room is only
  * checked: the work is done on the stack. */
-int plain_graph(uint32_t sets, uint32_t ways, uint32_t limit,
+int plain_graph(uint32_t sets, uint32_t ways, uint32_t revision, uint32_t limit,
                 const uint32_t *tracked, size_t tracked_count,
                 const uint32_t *runs, size_t nodes,
                 const uint32_t *accesses, size_t access_count,
@@ -61,7 +64,8 @@ int plain_smallest_budget(const struct plain_state *row, size_t states, uint64_t
 /* The units at each miss count from 0 to the largest, in a room of so many counts, zero beyond them. Gives 0, 7 or 8. */
 int plain_spread(const struct plain_state *row, size_t states, uint64_t *counts, size_t room, uint64_t *largest);
 
-/* Reads a text (section 7) into its numbers, in which the lists of the input then lie; it has one set. False if it is malformed. */
+/* Reads a text (section 7) into its numbers, in which the lists of the input then lie; it has one set, of the first revision.
+ * False if it is malformed. */
 bool plain_read(const unsigned char *text, size_t bytes, struct plain_numbers *numbers, struct plain_input *graph);
 
 /* What the curve program prints for this text, a refusal too: how many bytes of it there are in `output`. */

@@ -22,7 +22,7 @@
 #include <stdint.h>
 
 /* The version of what is declared here: it rises where a function, a constant or what a call gives changes. */
-#define ESTIMATE_VERSION 2
+#define ESTIMATE_VERSION 3
 
 #ifdef __cplusplus
 extern "C" {
@@ -39,17 +39,22 @@ extern "C" {
 #define ESTIMATE_MOST_NODES 64
 #define ESTIMATE_MOST_ACCESSES 4096
 
-/* A state is three words: the contents mask (bit i: the tracked block at place i is surely held), the misses, the units. A table is words, three for each state, or
- * a row of these. */
-#define ESTIMATE_STATE_WORDS 3
+/* A state is five words: the contents mask (bit i: the tracked block at place i is surely held), the misses, how many ways of each set may be filled (two
+ * words, a byte for each of sixteen sets, set 0 in the highest byte of the first), the units. A table is words, five for each state, or a row of these. */
+#define ESTIMATE_STATE_WORDS 5
 struct estimate_state {
-    uint64_t mask, misses, units;
+    uint64_t mask, misses, filled[2], units;
 };
+
+/* The revisions of the core: in the first a miss overwrites the drawn way of its set, empty or not; the second takes an empty way of the set while there is
+ * one. */
+#define ESTIMATE_FIRST_REVISION 1
+#define ESTIMATE_SECOND_REVISION 2
 
 /* Rooms that are long enough whatever comes in: of a result, of the work, of a spread, of the numbers of a text, of a curve's text,
  * and of the text of the curves in cycles. */
-#define ESTIMATE_RESULT_WORDS 192
-#define ESTIMATE_WORK_WORDS 15552
+#define ESTIMATE_RESULT_WORDS 320
+#define ESTIMATE_WORK_WORDS 25920
 #define ESTIMATE_SPREAD_COUNTS 4097
 #define ESTIMATE_NUMBERS 16384
 #define ESTIMATE_OUTPUT_BYTES 262144
@@ -77,17 +82,19 @@ enum estimate_refusal {
     ESTIMATE_SPREAD_ROOM = 8, /* spread room shorter than the largest misses + 1 */
     ESTIMATE_TEXT = 9,        /* malformed text: only in a curve's text, as `refused 9` */
     ESTIMATE_SETS = 10,       /* a set count other than 1, 2, 4, 8, 16 */
+    ESTIMATE_REVISION = 11,   /* a revision other than 1, 2 */
     ESTIMATE_TRACE_LENGTH = 12, /* the bytes of a trace are no multiple of 512 */
     ESTIMATE_DAMAGED = 13,    /* a block of a trace is damaged: its check, its zeros, its count or its number is wrong */
     ESTIMATE_NO_CORE = 16,    /* no such core */
     ESTIMATE_TRACE_ROOM = 21  /* room for fewer than 125 accesses a block, one place a block, or the blocks to be written */
 };
 
-/* The graph call: a cache of `sets` sets of `ways` ways, in which a block belongs to the set given by its number modulo `sets`; at most `limit` states; the
+/* The graph call: a cache of `sets` sets of `ways` ways, in which a block belongs to the set given by its number modulo `sets`; the core's `revision`,
+ * 1 or 2; at most `limit` states; the
  * tracked blocks; the length of each node's run; all accesses, node after node; the edges, from and to, two numbers each. Gives ESTIMATE_DONE, or the first of
- * 1, 10, 2, 3, 4, 5, 6 that applies. Done, `result` begins with the finished table and is zero beyond it, `work` is zero, `*states` is how many states the
+ * 1, 10, 11, 2, 3, 4, 5, 6 that applies. Done, `result` begins with the finished table and is zero beyond it, `work` is zero, `*states` is how many states the
  * table has and `*aside` how many units were set aside. Refused, nothing is written. */
-uint64_t estimate_graph(uint32_t sets, uint32_t ways, uint32_t limit,
+uint64_t estimate_graph(uint32_t sets, uint32_t ways, uint32_t revision, uint32_t limit,
                         const uint32_t *tracked, size_t tracked_count,
                         const uint32_t *runs, size_t nodes,
                         const uint32_t *accesses, size_t access_count,
@@ -109,9 +116,9 @@ uint64_t estimate_smallest_budget(const uint64_t *table, size_t words, size_t st
  * ESTIMATE_SPREAD_ROOM, and writes nothing, if `counts` has fewer than the largest + 1. */
 uint64_t estimate_spread(const uint64_t *table, size_t words, size_t states, uint64_t *counts, size_t counts_room, uint64_t *largest);
 
-/* The accesses of the longest path from the first node to the last go to `*longest`. Gives ESTIMATE_DONE, or the first of 1, 10, 2, 3, 4, 5 that applies, as the
+/* The accesses of the longest path from the first node to the last go to `*longest`. Gives ESTIMATE_DONE, or the first of 1, 10, 11, 2, 3, 4, 5 that applies, as the
  * graph call does; a refusal writes nothing. */
-uint64_t estimate_longest_path(uint32_t sets, uint32_t ways, uint32_t limit,
+uint64_t estimate_longest_path(uint32_t sets, uint32_t ways, uint32_t revision, uint32_t limit,
                                const uint32_t *tracked, size_t tracked_count,
                                const uint32_t *runs, size_t nodes,
                                const uint32_t *accesses, size_t access_count,

@@ -26,6 +26,9 @@ struct call {
 
 static const struct call calls[] = {
     {"graph", answer_graph},
+    {"spread", answer_spread},
+    {"above", answer_above},
+    {"smallest", answer_smallest},
     {"trace_write", answer_trace_write},
     {"trace_read", answer_trace_read},
     {"trace_list", answer_trace_list},

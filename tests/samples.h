@@ -58,8 +58,29 @@ struct graph {
 };
 bool take_graph(const struct words *words, size_t *taken, struct graph *graph);
 
+/* What is lent to a call that makes a table: the two rooms, and the two numbers that it writes. */
+struct lent {
+    struct room result;
+    size_t result_words;
+    struct room work;
+    size_t work_words;
+    size_t states;
+    uint64_t aside;
+};
+struct lent lend_for(const struct words *words);
+
+/* The answer of such a call: it is refused and has changed nothing; or the finished table over so many sets, and nothing else. */
+void print_refused(uint64_t refused, const struct lent *lent);
+void print_table(const struct lent *lent, size_t sets);
+
+/* The line mask/misses/units/F of a state in words, where F are the filled numbers of so many sets. */
+void print_state(const uint64_t *state, size_t sets);
+
 /* The kinds of calls. */
 bool answer_graph(const struct words *words);
+bool answer_spread(const struct words *words);
+bool answer_above(const struct words *words);
+bool answer_smallest(const struct words *words);
 bool answer_trace_write(const struct words *words);
 bool answer_trace_read(const struct words *words);
 bool answer_trace_list(const struct words *words);

@@ -39,41 +39,52 @@ bool take_graph(const struct words *words, size_t *taken, struct graph *graph)
         && *taken == words->count;
 }
 
-/* A line mask/misses/units for each state. */
-static void print_table(const uint64_t *table, size_t states)
+struct lent lend_for(const struct words *words)
 {
-    for (size_t i = 0; i < states; i++) {
-        const uint64_t *state = table + ESTIMATE_STATE_WORDS * i;
-        printf("%" PRIu64 "/%" PRIu64 "/%" PRIu64 "\n", state[0], state[1], state[2]);
-    }
+    return (struct lent){
+        lend("result", words->result_states * STATE_BYTES), words->result_states * ESTIMATE_STATE_WORDS,
+        lend("working", words->working_states * STATE_BYTES), words->working_states * ESTIMATE_STATE_WORDS,
+        (size_t)UNWRITTEN, UNWRITTEN,
+    };
 }
 
-/* graph SETS REVISION WARM INPUT: there is the first revision and the cold start, 1 and 0. */
+void print_refused(uint64_t refused, const struct lent *lent)
+{
+    print_refusal(refused);
+    expect_unchanged(&lent->result);
+    expect_unchanged(&lent->work);
+    expect(lent->states == (size_t)UNWRITTEN && lent->aside == UNWRITTEN, "a refused call has written a number");
+}
+
+void print_table(const struct lent *lent, size_t sets)
+{
+    const uint64_t *words = lent->result.at;
+    size_t room = lent->result_words / ESTIMATE_STATE_WORDS;
+    expect(lent->states <= room, "more states than there is room for");
+    for (size_t i = 0; i < lent->states && i < room; i++)
+        print_state(words + ESTIMATE_STATE_WORDS * i, sets);
+    printf("aside %" PRIu64 "\n", lent->aside);
+    expect_zero(&lent->result, lent->states * STATE_BYTES);
+    expect_zero(&lent->work, 0);
+}
+
+/* graph SETS REVISION WARM INPUT: WARM is 0, the cold start. */
 bool answer_graph(const struct words *words)
 {
     struct graph graph;
     uint32_t sets, revision, warm;
-    size_t taken = 0, states = (size_t)UNWRITTEN;
-    uint64_t aside = UNWRITTEN;
+    size_t taken = 0;
     if (!take_half(words, &taken, &sets) || !take_half(words, &taken, &revision) || !take_half(words, &taken, &warm)
-        || revision != 1 || warm != 0 || !take_graph(words, &taken, &graph))
+        || warm != 0 || !take_graph(words, &taken, &graph))
         return false;
-    struct room result = lend("result", words->result_states * STATE_BYTES), work = lend("working", words->working_states * STATE_BYTES);
-    uint64_t refused = estimate_graph(sets, graph.ways, graph.limit, graph.tracked, graph.tracked_count, graph.runs, graph.nodes,
+    struct lent lent = lend_for(words);
+    uint64_t refused = estimate_graph(sets, graph.ways, revision, graph.limit,
+                                      graph.tracked, graph.tracked_count, graph.runs, graph.nodes,
                                       graph.accesses, graph.access_count, graph.edges, graph.edge_numbers,
-                                      result.at, words->result_states * ESTIMATE_STATE_WORDS,
-                                      work.at, words->working_states * ESTIMATE_STATE_WORDS, &states, &aside);
-    if (refused != 0) {
-        print_refusal(refused);
-        expect_unchanged(&result);
-        expect_unchanged(&work);
-        expect(states == (size_t)UNWRITTEN && aside == UNWRITTEN, "a refused call has written a number");
-        return true;
-    }
-    expect(states <= words->result_states, "more states than there is room for");
-    print_table(result.at, states <= words->result_states ? states : 0);
-    printf("aside %" PRIu64 "\n", aside);
-    expect_zero(&result, states * STATE_BYTES);
-    expect_zero(&work, 0);
+                                      lent.result.at, lent.result_words, lent.work.at, lent.work_words, &lent.states, &lent.aside);
+    if (refused != 0)
+        print_refused(refused, &lent);
+    else
+        print_table(&lent, sets);
     return true;
 }

@@ -12,8 +12,8 @@ fn write_front(bytes: &[u8], n: usize) {
 // The curve of a text, in rooms of the sizes that are needed.
 fn write_curve(input: &[u8]) {
     let mut numbers: [u32; 16384] = [0; 16384];
-    let mut result: [u64; 192] = [0; 192];
-    let mut work: [u64; 15552] = [0; 15552];
+    let mut result: [u64; 320] = [0; 320];
+    let mut work: [u64; 25920] = [0; 25920];
     let mut counts: [u64; 4097] = [0; 4097];
     let mut output: [u8; 262144] = [0; 262144];
     match curve_of_text(

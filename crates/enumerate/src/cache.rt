@@ -1,4 +1,4 @@
-// The cache of document 01, section 1, with the sets of document 02, request 1/13, written down by itself: up to four sets of up to four
+// The cache of document 01, section 1, with the sets and the revisions of document 02, requests 1/13 and 6/13, written down by itself: up to four sets of up to four
 // ways. A set has four places in a row, each with a block's number, or 0 while the way is empty.
 use crate::numbers::read;
 
@@ -32,23 +32,64 @@ fn holds(cache: &[u32; 16], base: usize, block: u32) -> bool {
     cache[base + 3] == block
 }
 
-// The block is written to the way `drawn` of the set whose places begin at `base`.
-fn overwrite(cache: &mut [u32; 16], base: usize, drawn: u64, block: u32) {
-    if drawn < 4 {
+// The block is written to a way of the set whose places begin at `base`.
+fn overwrite(cache: &mut [u32; 16], base: usize, way: u64, block: u32) {
+    if way < 4 {
         if base < 13 {
-            cache[base + drawn as usize] = block;
+            cache[base + way as usize] = block;
         }
     }
 }
 
-// An access to `block` for which the way `drawn` is drawn: 1 where it misses. A hit changes nothing; a miss overwrites the
-// drawn way of the block's set, empty or not.
-pub(crate) fn access(cache: &mut [u32; 16], sets: u32, block: u32, drawn: u64) -> u64 {
+// Whether way `way`, one of `ways`, of the set whose places begin at `base` is empty.
+fn is_empty(cache: &[u32; 16], base: usize, ways: u64, way: usize) -> bool {
+    if ways <= way as u64 {
+        return false;
+    }
+    if 12 < base {
+        return false;
+    }
+    if 3 < way {
+        return false;
+    }
+    cache[base + way] == 0
+}
+
+// The way that a miss overwrites: in the first revision the drawn one, empty or not; in the second the first empty one, while there is one.
+fn victim(cache: &[u32; 16], base: usize, ways: u64, revision: u32, drawn: u64) -> u64 {
+    if revision == 1 {
+        return drawn;
+    }
+    if is_empty(cache, base, ways, 0) {
+        return 0;
+    }
+    if is_empty(cache, base, ways, 1) {
+        return 1;
+    }
+    if is_empty(cache, base, ways, 2) {
+        return 2;
+    }
+    if is_empty(cache, base, ways, 3) {
+        return 3;
+    }
+    drawn
+}
+
+// An access to `block` for which the way `drawn` is drawn: 1 where it misses. A hit changes nothing.
+pub(crate) fn access(
+    cache: &mut [u32; 16],
+    sets: u32,
+    ways: u64,
+    revision: u32,
+    block: u32,
+    drawn: u64,
+) -> u64 {
     let base = base_of(sets, block);
     if holds(cache, base, block) {
         return 0;
     }
-    overwrite(cache, base, drawn, block);
+    let way = victim(cache, base, ways, revision, drawn);
+    overwrite(cache, base, way, block);
     1
 }
 

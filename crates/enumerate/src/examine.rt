@@ -108,6 +108,7 @@ fn examine_path(
         tracked,
         cache.sets,
         cache.ways as u64,
+        cache.revision,
         all,
     );
     examine_counts(table, told, &counts, path, report)
@@ -211,10 +212,10 @@ fn examine_result(
     edges: &[u32],
     report: Report,
 ) -> Report {
-    if result.len() / 3 < states {
+    if result.len() / 5 < states {
         return report.compared(false);
     }
-    let end = states * 3;
+    let end = states * 5;
     let table = &result[0..end];
     let few = report.compared(states <= limit as usize);
     let whole = few.compared(total(table) == WHOLE);
@@ -248,8 +249,8 @@ fn examine(
     edges: &[u32],
     report: Report,
 ) -> Report {
-    let mut result: [u64; 192] = [0; 192];
-    let mut work: [u64; 15552] = [0; 15552];
+    let mut result: [u64; 320] = [0; 320];
+    let mut work: [u64; 25920] = [0; 25920];
     let called = report.called();
     let longest = accesses_of(longest_path(cache, limit, tracked, runs, accesses, edges));
     match analyse(

@@ -1,9 +1,10 @@
 // Small branching graphs. Edges are written from, to, from, to.
 use crate::numbers::times;
 use crate::report::Report;
+use crate::sweep::first_revision;
 use crate::sweep::one_set;
+use crate::sweep::second_revision;
 use crate::sweep::sweep;
-use rules::Cache;
 
 // One graph on one set, with one, two and three ways, and with some blocks untracked: every `stride`-th access list over three blocks.
 fn on_one_set(runs: &[u32], edges: &[u32], length: usize, stride: u64, report: Report) -> Report {
@@ -22,14 +23,25 @@ fn on_one_set(runs: &[u32], edges: &[u32], length: usize, stride: u64, report: R
     sweep(one_set(2), &[2], 3, runs, edges, length, stride, three)
 }
 
+// The second revision, on one set, two and four.
+fn on_second(runs: &[u32], edges: &[u32], length: usize, stride: u64, report: Report) -> Report {
+    let one = second_revision(1, 2);
+    let two = second_revision(2, 2);
+    let four = second_revision(4, 2);
+    let few = times(stride, 11);
+    let all = sweep(one, &[3, 1, 2], 3, runs, edges, length, stride, report);
+    let some = sweep(two, &[2, 3], 3, runs, edges, length, stride, all);
+    sweep(four, &[5, 1, 2], 5, runs, edges, length, few, some)
+}
+
 // And on two and four sets: 1 and 3 belong to one of the two, 1 and 5 to one of the four.
 fn graph(runs: &[u32], edges: &[u32], length: usize, stride: u64, report: Report) -> Report {
-    let two = Cache { sets: 2, ways: 2 };
-    let four = Cache { sets: 4, ways: 1 };
+    let two = first_revision(2, 2);
+    let four = first_revision(4, 1);
     let one = on_one_set(runs, edges, length, stride, report);
     let all = sweep(two, &[3, 1, 2], 3, runs, edges, length, stride, one);
     let some = sweep(two, &[1, 2], 3, runs, edges, length, stride, all);
-    sweep(
+    let sets = sweep(
         four,
         &[5, 1],
         5,
@@ -38,7 +50,8 @@ fn graph(runs: &[u32], edges: &[u32], length: usize, stride: u64, report: Report
         length,
         times(stride, 11),
         some,
-    )
+    );
+    on_second(runs, edges, length, stride, sets)
 }
 
 // Nodes 1 and 2 between 0 and 3: the two sides of a branch.

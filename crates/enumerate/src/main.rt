@@ -1,5 +1,5 @@
 // The independent second program (document 01, end of section 6). It walks every choice sequence of short runs and small
-// graphs on a little cache of its own, of one, two or four sets, counts them, and holds the tables of the graph call to the counts:
+// graphs on a little cache of its own, of one, two or four sets, of both revisions, counts them, and holds the tables of the graph call to the counts:
 //
 // - the units of a table total 2^48, and it has at most K states;
 // - on a straight run whose blocks are all tracked, where nothing is set aside: the units of each contents and miss count

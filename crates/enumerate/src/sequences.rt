@@ -19,13 +19,16 @@ fn cell_of(mask: u64, misses: u64) -> usize {
 
 // The cell of one choice sequence: way `draws` % `ways` is drawn at the first access, and so on digit by digit. There is a
 // draw at every access, hits included.
-fn walk(path: &[u32], tracked: &[u32], sets: u32, ways: u64, draws: u64) -> usize {
+fn walk(path: &[u32], tracked: &[u32], sets: u32, ways: u64, revision: u32, draws: u64) -> usize {
     let mut cache: [u32; 16] = [0; 16];
     let mut misses: u64 = 0;
     let mut left = draws;
     let mut i: usize = 0;
     while i < path.len() {
-        misses = plus(misses, access(&mut cache, sets, path[i], digit(left, ways)));
+        misses = plus(
+            misses,
+            access(&mut cache, sets, ways, revision, path[i], digit(left, ways)),
+        );
         left = other_digits(left, ways);
         i += 1;
     }
@@ -45,11 +48,12 @@ pub(crate) fn count_each(
     tracked: &[u32],
     sets: u32,
     ways: u64,
+    revision: u32,
     all: u64,
 ) {
     let mut draws: u64 = 0;
     while draws < all {
-        count_in(counts, walk(path, tracked, sets, ways, draws));
+        count_in(counts, walk(path, tracked, sets, ways, revision, draws));
         draws += 1;
     }
 }

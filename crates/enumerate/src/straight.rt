@@ -1,6 +1,8 @@
 // Straight runs: one node, no edges.
 use crate::report::Report;
+use crate::sweep::first_revision;
 use crate::sweep::one_set;
+use crate::sweep::second_revision;
 use crate::sweep::sweep;
 use rules::Cache;
 
@@ -63,22 +65,35 @@ fn long_runs(report: Report) -> Report {
 
 // Two sets: 1 and 3 belong to one, 2 and 4 to the other.
 fn on_two_sets(report: Report) -> Report {
-    let one = short_runs(Cache { sets: 2, ways: 1 }, &[2, 3, 1], 3, 6, report);
-    let two = short_runs(Cache { sets: 2, ways: 2 }, &[2, 3, 1], 3, 6, one);
-    let three = short_runs(Cache { sets: 2, ways: 3 }, &[2, 3, 1], 3, 5, two);
-    let some = short_runs(Cache { sets: 2, ways: 2 }, &[3, 4], 4, 5, three);
-    runs_of(Cache { sets: 2, ways: 2 }, &[1, 2, 3, 4], 4, 8, 499, some)
+    let one = short_runs(first_revision(2, 1), &[2, 3, 1], 3, 6, report);
+    let two = short_runs(first_revision(2, 2), &[2, 3, 1], 3, 6, one);
+    let three = short_runs(first_revision(2, 3), &[2, 3, 1], 3, 5, two);
+    let some = short_runs(first_revision(2, 2), &[3, 4], 4, 5, three);
+    runs_of(first_revision(2, 2), &[1, 2, 3, 4], 4, 8, 499, some)
 }
 
 // Four sets: 1 and 5 belong to one, each other block has one to itself.
 fn on_four_sets(report: Report) -> Report {
-    let one = short_runs(Cache { sets: 4, ways: 1 }, &[5, 2, 1], 5, 4, report);
-    let two = runs_of(Cache { sets: 4, ways: 2 }, &[1, 5, 4, 2], 5, 6, 47, one);
-    runs_of(Cache { sets: 4, ways: 3 }, &[5, 3, 1], 5, 6, 97, two)
+    let one = short_runs(first_revision(4, 1), &[5, 2, 1], 5, 4, report);
+    let two = runs_of(first_revision(4, 2), &[1, 5, 4, 2], 5, 6, 47, one);
+    runs_of(first_revision(4, 3), &[5, 3, 1], 5, 6, 97, two)
+}
+
+// The second revision: one set, two and four.
+fn filling_runs(report: Report) -> Report {
+    let one = short_runs(second_revision(1, 1), &[2, 3, 1], 3, 6, report);
+    let two = short_runs(second_revision(1, 2), &[2, 3, 1], 3, 6, one);
+    let three = short_runs(second_revision(1, 3), &[2, 3, 1], 3, 6, two);
+    let four = short_runs(second_revision(1, 4), &[2, 3, 1], 3, 5, three);
+    let some = short_runs(second_revision(1, 2), &[3, 1], 4, 5, four);
+    let longer = runs_of(second_revision(1, 3), &[1, 2, 3, 4], 4, 8, 997, some);
+    let sets = short_runs(second_revision(2, 2), &[2, 3, 1], 3, 6, longer);
+    let two = runs_of(second_revision(2, 2), &[1, 2, 3, 4], 4, 8, 499, sets);
+    runs_of(second_revision(4, 2), &[1, 5, 4, 2], 5, 6, 47, two)
 }
 
 pub(crate) fn all_straight(report: Report) -> Report {
     let tracked = tracked_runs(report);
     let untracked = untracked_runs(tracked);
-    on_four_sets(on_two_sets(long_runs(untracked)))
+    filling_runs(on_four_sets(on_two_sets(long_runs(untracked))))
 }

@@ -6,9 +6,27 @@ use crate::numbers::power;
 use crate::report::Report;
 use rules::Cache;
 
+// A cache of the first revision.
+pub(crate) fn first_revision(sets: u32, ways: u32) -> Cache {
+    Cache {
+        sets,
+        ways,
+        revision: 1,
+    }
+}
+
+// A cache of the second revision, which fills empty ways first.
+pub(crate) fn second_revision(sets: u32, ways: u32) -> Cache {
+    Cache {
+        sets,
+        ways,
+        revision: 2,
+    }
+}
+
 // A cache of one set, as document 01 has it.
 pub(crate) fn one_set(ways: u32) -> Cache {
-    Cache { sets: 1, ways }
+    first_revision(1, ways)
 }
 
 // Block numbers are 1 and up.

@@ -1,13 +1,13 @@
-// Reading a finished table: three words a state (mask, misses, units).
+// Reading a finished table: five words a state (mask, misses, two of filled numbers, units).
 use crate::numbers::plus;
 
 // All units.
 pub(crate) fn total(table: &[u64]) -> u64 {
-    let states = table.len() / 3;
+    let states = table.len() / 5;
     let mut units: u64 = 0;
     let mut i: usize = 0;
     while i < states {
-        units = plus(units, table[i * 3 + 2]);
+        units = plus(units, table[i * 5 + 4]);
         i += 1;
     }
     units
@@ -23,11 +23,11 @@ pub(crate) fn if_above(taken: u64, budget: u64, n: u64) -> u64 {
 
 // The units with more misses than `budget`.
 pub(crate) fn units_above(table: &[u64], budget: u64) -> u64 {
-    let states = table.len() / 3;
+    let states = table.len() / 5;
     let mut units: u64 = 0;
     let mut i: usize = 0;
     while i < states {
-        units = plus(units, if_above(table[i * 3 + 1], budget, table[i * 3 + 2]));
+        units = plus(units, if_above(table[i * 5 + 1], budget, table[i * 5 + 4]));
         i += 1;
     }
     units
@@ -46,13 +46,13 @@ fn if_in(mask: u64, misses: u64, cell: usize, units: u64) -> u64 {
 
 // The units with the contents and misses of a cell.
 pub(crate) fn units_in(table: &[u64], cell: usize) -> u64 {
-    let states = table.len() / 3;
+    let states = table.len() / 5;
     let mut units: u64 = 0;
     let mut i: usize = 0;
     while i < states {
         units = plus(
             units,
-            if_in(table[i * 3], table[i * 3 + 1], cell, table[i * 3 + 2]),
+            if_in(table[i * 5], table[i * 5 + 1], cell, table[i * 5 + 4]),
         );
         i += 1;
     }

@@ -36,7 +36,7 @@ module _ (i : Input) (rs ws : List ℕ) where
   leaves-finished h = go (verdict i) h
     where
       go : (v : Verdict) → outcomeSays (answered v i) .number ≡ 0 → take (outcomeSays (answered v i) .states) (tableOf (leaves v i rs ws .result)) ≡ finished i .table
-      go Accepted h = words-first (finished i .table) (replicate (length rs - length (finished i .table) * 3) 0)
+      go Accepted h = words-first (finished i .table) (replicate (length rs - length (finished i .table) * 5) 0)
       go (Refused r) h = absurd (numbered r h)
 
   leaves-worked : outcomeSays (outcome i) .number ≡ 0 → leaves (verdict i) i rs ws .work ≡ replicate (length ws) 0
@@ -77,7 +77,7 @@ module _ (c : Cache) (K : ℕ) (ts ns bs es rs ws : List ℕ) where
       rw (result-finished h) (finished-is-table i (rw (leaves-outcome i rs ws (verdict i)) at h))
 
 -- with room for every state limit, the call answers and leaves what the definitions say of an input with just the room that is needed
-module _ (c : Cache) (K : ℕ) (ts ns bs es rs ws : List ℕ) (result : 192 ≤ length rs) (working : 15552 ≤ length ws) (a : Outcome) (rs′ ws′ : List ℕ)
+module _ (c : Cache) (K : ℕ) (ts ns bs es rs ws : List ℕ) (result : 320 ≤ length rs) (working : 25920 ≤ length ws) (a : Outcome) (rs′ ws′ : List ℕ)
     (is : record { answer = a; result = rs′; work = ws′ } ≡ analysed c K ts ns bs es rs ws) where
   abbrev i : Input
   i = handed c K ts ns bs es rs ws
@@ -90,13 +90,13 @@ module _ (c : Cache) (K : ℕ) (ts ns bs es rs ws : List ℕ) (result : 192 ≤ 
   pub call-answers : a ≡ outcome (inputOf c K ts ns bs es)
   call-answers =
       answers-handed
-      ∙ sym (same-outcome c K ts ns bs es (length rs / 3) (length ws / 3) (omega arith) (omega arith))
+      ∙ sym (same-outcome c K ts ns bs es (length rs / 5) (length ws / 5) (omega arith) (omega arith))
 
   pub call-finishes : outcomeSays a .number ≡ 0 → take (outcomeSays a .states) (tableOf rs′) ≡ finished (inputOf c K ts ns bs es) .table
   call-finishes h =
       ap (λ (f : After). take (outcomeSays (f .answer) .states) (tableOf (f .result))) is
       ∙ result-finished c K ts ns bs es rs ws (sym (ap (λ (f : After). outcomeSays (f .answer) .number) is) ∙ h)
-      ∙ ap (λ (w : Work). w .table) (sym (same-finished c K ts ns bs es (length rs / 3) (length ws / 3)))
+      ∙ ap (λ (w : Work). w .table) (sym (same-finished c K ts ns bs es (length rs / 5) (length ws / 5)))
 
   pub call-clears : outcomeSays a .number ≡ 0 → ws′ ≡ replicate (length ws) 0
   unfolding analysed

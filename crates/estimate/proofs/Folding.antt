@@ -17,14 +17,15 @@ use Rattle.rules.specs.declared.Pair.{Pair}
 use Rattle.rules.specs.declared.Units.{Units}
 use Rattle.rules.specs.Units.{more, addOf}
 use Rattle.rules.specs.Ordered.{remove, best, bestFrom}
-use Rattle.rules.specs.Table.{state, unitsOf, order, stateAt, rising, add, Work}
+use Rattle.rules.specs.Table.{unitsOf, order, noState, stateAt, rising, add, Work}
 use Rattle.rules.specs.Fold.{fewer, sharing, apart, closer, choice, meet, changed, foldAt, fold, foldsOf, folded}
 use Rattle.rules.proofs.Lists.{length-remove, best-lt}
 use Rattle.rules.proofs.Ordered.{in-order-remove}
 use Rattle.rules.proofs.Table.{rising-is, rising-so}
 use Rattle.rules.proofs.Fold.{firstOf, secondOf, othersOf, meetOf, rising-fold, fold-shorter}
-use Rattle.estimate.specs.Placing.{Added}
+use Rattle.estimate.specs.Placing.{isSame, Added}
 use Rattle.estimate.specs.Rooms.{Stands}
+use Rattle.estimate.proofs.Insertion.{same-tests}
 
 -- ---- the search for the best, over any list of states
 
@@ -41,8 +42,8 @@ module _ (better : State → State → Bool) (R : List State) where
   -- the state at place j takes over where it is better
   search-turn : (k j : ℕ) (b : Bool) → j < length R → better (stateAt R j) (stateAt R k) ≡ b → Searched k j
       → Searched (cond b j k) (j + 1)
-  search-turn k j true l e h = h ∙ rw (drop-cons R j (state 0 0 0) l, best-cons, e, add-one j)
-  search-turn k j false l e h = h ∙ rw (drop-cons R j (state 0 0 0) l, best-cons, e, add-one j)
+  search-turn k j true l e h = h ∙ rw (drop-cons R j noState l, best-cons, e, add-one j)
+  search-turn k j false l e h = h ∙ rw (drop-cons R j noState l, best-cons, e, add-one j)
 
 search-start : (better : State → State → Bool) (R : List State) → 0 < length R → Searched better R 0 1
 unfolding best
@@ -54,15 +55,12 @@ search-end better R k j e h = h ∙ rw (e, drop-length R)
 
 -- ---- what is set aside
 
-module _ (s m : State) where
-  pub changed-none : s .mask ≡ m .mask → s .misses ≡ m .misses → 0 ≡ changed s m
-  changed-none p q = rw (eq-eqb _ _ p, eq-eqb _ _ q)
+module _ (s m : State) (r : Bool) (same : r ≡ isSame (order s m)) where
+  pub changed-none : r ≡ true → 0 ≡ changed s m
+  changed-none h = rw (sym (same-tests s m) ∙ sym same ∙ h)
 
-  pub changed-mask : (s .mask ≡ m .mask → ⊥) → unitsOf s ≡ changed s m
-  changed-mask n = rw (ne-eqb _ _ n)
-
-  pub changed-misses : s .mask ≡ m .mask → (s .misses ≡ m .misses → ⊥) → unitsOf s ≡ changed s m
-  changed-misses p n = rw (eq-eqb _ _ p, ne-eqb _ _ n)
+  pub changed-all : r ≡ false → unitsOf s ≡ changed s m
+  changed-all h = rw (sym (same-tests s m) ∙ sym same ∙ h)
 
 -- ---- the others than the one at place i
 
@@ -128,7 +126,7 @@ module _ (i : ℕ) (t : List State) where
   closing-turn j w w′ x a l k h p q =
       rw (add-one j)
       record {
-        front = ap (take (suc j)) q ∙ take-suc-set w j x k ∙ rw (h .front, is) (sym (take-suc (remove i t) j (state 0 0 0) long));
+        front = ap (take (suc j)) q ∙ take-suc-set w j x k ∙ rw (h .front, is) (sym (take-suc (remove i t) j noState long));
         back =
             ap (drop (suc (suc j))) q ∙ drop-set-lt (suc (suc j)) w j x (omega arith)
             ∙ one-further w ∙ ap (drop 1) (h .back) ∙ sym (one-further t);
@@ -138,7 +136,7 @@ module _ (i : ℕ) (t : List State) where
       one-further u = let e : suc j + 1 ≡ suc (suc j) = omega arith in sym (drop-drop 1 (suc j) u ∙ rw e)
 
       behind : (u : List State) → stateAt u (j + 1) ≡ stateAt (drop (suc j) u) 0
-      behind u = let e : suc j + 0 ≡ j + 1 = omega arith in sym (getD-drop (suc j) u 0 (state 0 0 0) ∙ rw e)
+      behind u = let e : suc j + 0 ≡ j + 1 = omega arith in sym (getD-drop (suc j) u 0 noState ∙ rw e)
 
       is : x ≡ stateAt (remove i t) j
       is = p ∙ behind w ∙ ap (λ (u : List State). stateAt u 0) (h .back) ∙ sym (behind t) ∙ rw (add-one j) (sym (others-behind i j t a))
@@ -162,7 +160,7 @@ pub record Fewest (R : List State) (k u i : ℕ) : Type 0 where
 module _ (T : List State) (n : ℕ) (room : n ≤ length T) where
   -- a state of the list at a place below n stands in the table
   here : (i : ℕ) (s : State) → i < n → s ≡ stateAt T i → s ≡ stateAt (take n T) i
-  here i s l e = e ∙ sym (getD-take n T i (state 0 0 0) l)
+  here i s l e = e ∙ sym (getD-take n T i noState l)
 
   pub fewest-start : (s : State) → 0 < n → s ≡ stateAt T 0 → Fewest (take n T) 0 (unitsOf s) 1
   fewest-start s l e =
@@ -211,7 +209,7 @@ module _ (T : List State) (n : ℕ) (room : n ≤ length T) (i : ℕ) (among : i
   -- t is the state at place j of the others, which stands at place p of the table
   module _ (j p : ℕ) (t : State) (l : suc j < n) (e : p ≡ cond (ltb j i) j (suc j)) (d : t ≡ stateAt T p) where
     other : t ≡ stateAt R j
-    other = d ∙ sym (others-at i j (take n T) ∙ rw (← e) (getD-take n T p (state 0 0 0) (other-within i j p n e l)))
+    other = d ∙ sym (others-at i j (take n T) ∙ rw (← e) (getD-take n T p noState (other-within i j p n e l)))
 
     -- b says whether it is better than the best so far
     module _ (k most near : ℕ) (b : Bool) (q : b ≡ (ltb most (sharing s t) || (eqb most (sharing s t) && ltb (apart s t) near)))
@@ -238,7 +236,7 @@ module _ (T : List State) (n : ℕ) (room : n ≤ length T) (i : ℕ) (among : i
       → record { fewest = i; partner = k } ≡ choice (take n T)
   unfolding choice
   choice-found k most near j d b e h =
-      rw (b, getD-take n T i (state 0 0 0) among, ← d, search-end (closer s) R k j (omega (arith, long)) (h .search))
+      rw (b, getD-take n T i noState among, ← d, search-end (closer s) R k j (omega (arith, long)) (h .search))
 
 -- ---- the two places that are chosen
 
@@ -275,7 +273,7 @@ module _ (T : List State) (n : ℕ) (room : n ≤ length T) (some : 2 ≤ n) (p 
     module _ (s t m : State) (x : Units) (is-first : s ≡ stateAt T (p .fewest)) (is-second : t ≡ stateAt T₁ (p .partner))
         (sum : x ≡ addOf (s .units) (t .units)) (both : m ≡ meet s t (x .0)) where
       first-there : s ≡ firstOf p (take n T)
-      first-there = is-first ∙ sym (getD-take n T (p .fewest) (state 0 0 0) within)
+      first-there = is-first ∙ sym (getD-take n T (p .fewest) noState within)
         where
           within : p .fewest < n
           within = fewest-within (take n T) n (length-take-le n T room) some p chosen
@@ -283,7 +281,7 @@ module _ (T : List State) (n : ℕ) (room : n ≤ length T) (some : 2 ≤ n) (p 
       second-there : t ≡ secondOf p (take n T)
       second-there =
           is-second
-          ∙ sym (getD-take (n - 1) T₁ (p .partner) (state 0 0 0) within)
+          ∙ sym (getD-take (n - 1) T₁ (p .partner) noState within)
           ∙ ap (λ (X : List State). stateAt X (p .partner)) first
         where
           within : p .partner < n - 1

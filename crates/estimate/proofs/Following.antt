@@ -19,10 +19,10 @@ use Rattle.rules.specs.declared.State.{State}
 use Rattle.basics.specs.Sums.{sumOver}
 use Rattle.basics.proofs.Sums.{sum-append}
 use Rattle.rules.specs.Units.{whole, more}
-use Rattle.rules.specs.Contents.{bit, hits, heldBelow, held, size, without, atRisk}
+use Rattle.rules.specs.Contents.{bit, hits, heldBelow, held, size, without}
 use Rattle.rules.specs.Ordered.{insertAll}
-use Rattle.rules.specs.Table.{state, unitsOf, rising, present, add, stateAt}
-use Rattle.rules.specs.Step.{missed, restOf, miss, successors, leftOver, access, accessAside}
+use Rattle.rules.specs.Table.{unitsOf, rising, present, add, noState, stateAt}
+use Rattle.rules.specs.Step.{atRisk, restOf, miss, successors, leftOver, access, accessAside}
 use Rattle.rules.specs.Shape.{Every}
 use Rattle.rules.proofs.Splitting.{more-adds, more-more}
 use Rattle.rules.proofs.Lists.{every-take, every-at, every-weaker, flat-snoc}
@@ -31,7 +31,7 @@ use Rattle.rules.proofs.Sets.{risk-sub}
 use Rattle.rules.proofs.Step.{length-access}
 use Rattle.rules.proofs.Table.{rising-is, rising-so, rising-add, length-present, length-present-append, length-add, add-append}
 use Rattle.estimate.specs.Placing.{Added}
-use Rattle.estimate.specs.Following.{lostAt, Workable}
+use Rattle.estimate.specs.Following.{fuller, missedFrom, lostAt, Workable}
 
 -- ---- adding in parts
 
@@ -57,19 +57,19 @@ module _ (S : List State) (n m : ℕ) (T T₁ : List State) (a : Added S n m T T
 module _ (x : Target) (s : State) (E q : ℕ) where
   -- what the loss of each of the blocks of E below place k leaves
   abbrev pub lostBelow : ℕ → List State
-  lostBelow k = map (λ e. missed x s (without (s .mask) e) q) (heldBelow k E)
+  lostBelow k = map (λ e. missedFrom x s (without (s .mask) e) q) (heldBelow k E)
 
   pub lost-next : (k : ℕ) → lostBelow (k + 1) ≡ lostBelow k ++ lostAt x s E q k
   unfolding heldBelow lostAt
-  lost-next k = rw (add-one k) (map-append (λ e. missed x s (without (s .mask) e) q) (heldBelow k E) _ ∙ ap (lostBelow k ++_) (go (bit E k)))
+  lost-next k = rw (add-one k) (map-append (λ e. missedFrom x s (without (s .mask) e) q) (heldBelow k E) _ ∙ ap (lostBelow k ++_) (go (bit E k)))
     where
-      go : (b : Bool) → map (λ e. missed x s (without (s .mask) e) q) (cond b (k ∷ []) []) ≡ cond b (missed x s (without (s .mask) k) q ∷ []) []
+      go : (b : Bool) → map (λ e. missedFrom x s (without (s .mask) e) q) (cond b (k ∷ []) []) ≡ cond b (missedFrom x s (without (s .mask) k) q ∷ []) []
       go true = refl
       go false = refl
 
   lost-few : (k : ℕ) → length (lostBelow k) ≤ k
   unfolding heldBelow
-  lost-few k = rw (length-map (heldBelow k E) (λ e. missed x s (without (s .mask) e) q)) (few k)
+  lost-few k = rw (length-map (heldBelow k E) (λ e. missedFrom x s (without (s .mask) e) q)) (few k)
     where
       few : (k : ℕ) → length (heldBelow k E) ≤ k
       few zero = omega arith
@@ -83,19 +83,19 @@ module _ (x : Target) (s : State) (E q : ℕ) where
   lost-room n m k T T₁ room a =
       omega (arith, added-length (lostBelow k) n m T T₁ a room, length-present (lostBelow k), lost-few k)
 
-  pub lost-all : lostBelow 16 ≡ map (λ e. missed x s (without (s .mask) e) q) (held E)
+  pub lost-all : lostBelow 16 ≡ map (λ e. missedFrom x s (without (s .mask) e) q) (held E)
   unfolding held
   lost-all = ap lostBelow (sym sixteen-places)
 
 -- one block: lost where it is one of E
 module _ (x : Target) (s : State) (E q k : ℕ) where
-  pub lost-here : bit E k ≡ true → (D : ℕ) (t : State) (n r : ℕ) (T T′ : List State) → D ≡ without (s .mask) k → t ≡ missed x s D q
+  pub lost-here : bit E k ≡ true → (D : ℕ) (t : State) (n r : ℕ) (T T′ : List State) → D ≡ without (s .mask) k → t ≡ missedFrom x s D q
       → Added (t ∷ []) n r T T′ → Added (lostAt x s E q k) n r T T′
   unfolding lostAt
   lost-here h D t n r T T′ p e a = subst (λ (S : List State). Added S n r T T′) is a
     where
       is : t ∷ [] ≡ lostAt x s E q k
-      is = rw h (ap (λ (u : State). u ∷ []) (e ∙ ap (λ (C : ℕ). missed x s C q) p))
+      is = rw h (ap (λ (u : State). u ∷ []) (e ∙ ap (λ (C : ℕ). missedFrom x s C q) p))
 
   pub lost-none : bit E k ≡ false → (n : ℕ) (T : List State) → n ≤ length T → Added (lostAt x s E q k) n n T T
   unfolding lostAt
@@ -110,7 +110,7 @@ shares-fit d q u N l e h = record { fits = lt-of-le-of-lt (mul-le-mul l (le-tran
 module _ (x : Target) (s : State) (E N q : ℕ) where
   -- where a way loses a block
   abbrev lostAll : List State
-  lostAll = map (λ e. missed x s (without (s .mask) e) q) (held E)
+  lostAll = map (λ e. missedFrom x s (without (s .mask) e) q) (held E)
 
   module _ (n : ℕ) (T : List State) (room : n ≤ length T) where
     pub lost-count : (m : ℕ) (T₁ : List State) → Added lostAll n m T T₁ → m ≤ n + size E
@@ -120,20 +120,20 @@ module _ (x : Target) (s : State) (E N q : ℕ) where
           arith,
           added-length lostAll n m T T₁ a room,
           length-present lostAll,
-          length-map (held E) (λ e. missed x s (without (s .mask) e) q),
+          length-map (held E) (λ e. missedFrom x s (without (s .mask) e) q),
         )
 
     -- where every way of the set holds a block, no units are kept
-    pub kept-count : (m z : ℕ) (t : State) (T₁ T₂ : List State) (r : ℕ) → size E ≤ N → z ≡ size E → t ≡ missed x s (s .mask) ((N - z) * q)
+    pub kept-count : (m z C : ℕ) (t : State) (T₁ T₂ : List State) (r : ℕ) → size E ≤ N → z ≡ size E → t ≡ missedFrom x s C ((N - z) * q)
         → Added lostAll n m T T₁ → Added (t ∷ []) m r T₁ T₂ → r ≤ n + N
     unfolding size
-    kept-count m z t T₁ T₂ r small e p a b =
+    kept-count m z C t T₁ T₂ r small e p a b =
         omega (
           arith,
           added-length (lostAll ++ (t ∷ [])) n r T T₂ (added-then lostAll n m T T₁ a (t ∷ []) r T₂ b) room,
           length-present-append lostAll (t ∷ []),
           length-present lostAll,
-          length-map (held E) (λ e. missed x s (without (s .mask) e) q),
+          length-map (held E) (λ e. missedFrom x s (without (s .mask) e) q),
           last (decLt (size E) N),
         )
       where
@@ -144,16 +144,18 @@ module _ (x : Target) (s : State) (E N q : ℕ) where
         last (yes l) = omega (arith, length-present (t ∷ []))
         last (no l) = rw (gone (N - z) (omega arith) (ap unitsOf p)) (omega arith)
 
-  pub miss-put : (n m₁ m₂ r : ℕ) (T T₁ T₂ T₃ : List State) (p z D : ℕ) (t₁ t₂ : State) → E ≡ atRisk x (s .mask) → q ≡ unitsOf s / N → p ≡ unitsOf s % N → z ≡ size E → D ≡ restOf (s .mask) E
-      → t₁ ≡ missed x s (s .mask) ((N - z) * q) → t₂ ≡ missed x s D p
-      → Added lostAll n m₁ T T₁ → Added (t₁ ∷ []) m₁ m₂ T₁ T₂ → Added (t₂ ∷ []) m₂ r T₂ T₃ → Added (miss N x s) n r T T₃
-  unfolding miss
-  miss-put n m₁ m₂ r T T₁ T₂ T₃ p z D t₁ t₂ ee eq ep ez ed e₁ e₂ a b c =
-      subst (λ (S : List State). Added S n r T T₃) is
-      (added-then (lostAll ++ (t₁ ∷ [])) n m₂ T T₂ (added-then lostAll n m₁ T T₁ a (t₁ ∷ []) m₂ T₂ b) (t₂ ∷ []) r T₃ c)
-    where
-      is : lostAll ++ (t₁ ∷ []) ++ (t₂ ∷ []) ≡ miss N x s
-      is = append-snoc lostAll t₁ (t₂ ∷ []) ∙ rw (e₁, e₂, ep, ez, ed, eq, ee)
+-- s itself, and as it is with the filled numbers after the miss
+pub miss-put : (N : ℕ) (x : Target) (s t : State) (E q n m₁ m₂ r : ℕ) (T T₁ T₂ T₃ : List State) (p z D : ℕ) (t₁ t₂ : State) → E ≡ atRisk N x (s .filled) (s .mask) → t ≡ fuller N x s
+    → q ≡ unitsOf s / N → p ≡ unitsOf s % N → z ≡ size E → D ≡ restOf (s .mask) E
+    → t₁ ≡ missedFrom x t (s .mask) ((N - z) * q) → t₂ ≡ missedFrom x t D p
+    → Added (lostAll x t E N q) n m₁ T T₁ → Added (t₁ ∷ []) m₁ m₂ T₁ T₂ → Added (t₂ ∷ []) m₂ r T₂ T₃ → Added (miss N x s) n r T T₃
+unfolding miss
+miss-put N x s t E q n m₁ m₂ r T T₁ T₂ T₃ p z D t₁ t₂ ee et eq ep ez ed e₁ e₂ a b c =
+    subst (λ (S : List State). Added S n r T T₃) is
+    (added-then (lostAll x t E N q ++ (t₁ ∷ [])) n m₂ T T₂ (added-then (lostAll x t E N q) n m₁ T T₁ a (t₁ ∷ []) m₂ T₂ b) (t₂ ∷ []) r T₃ c)
+  where
+    is : lostAll x t E N q ++ (t₁ ∷ []) ++ (t₂ ∷ []) ≡ miss N x s
+    is = append-snoc (lostAll x t E N q) t₁ (t₂ ∷ []) ∙ rw (e₁, e₂, ed, ep, ez, eq, et, ee)
 
 -- ---- a hit or a miss
 
@@ -172,18 +174,19 @@ module _ (N : ℕ) (x : Target) (s : State) where
   unfolding leftOver
   over-none h = rw h
 
-  pub over-safe : hits x (s .mask) ≡ false → (E : ℕ) → E ≡ atRisk x (s .mask) → E ≡ 0 → 0 ≡ leftOver N x s
-  unfolding leftOver
-  over-safe h E e z = rw (h, eq-eqb (atRisk x (s .mask)) 0 (sym e ∙ z))
+  module _ (h : hits x (s .mask) ≡ false) (E : ℕ) (risk : E ≡ atRisk N x (s .filled) (s .mask)) where
+    pub over-safe : E ≡ 0 → 0 ≡ leftOver N x s
+    unfolding leftOver
+    over-safe z = rw (h, ← risk, eq-eqb E 0 z)
 
-  pub over-rest : hits x (s .mask) ≡ false → (E : ℕ) → E ≡ atRisk x (s .mask) → (E ≡ 0 → ⊥) → (p : ℕ) → p ≡ unitsOf s % N → p ≡ leftOver N x s
-  unfolding leftOver
-  over-rest h E e z p q = rw (h, ne-eqb (atRisk x (s .mask)) 0 (λ n. z (e ∙ n))) q
+    pub over-rest : (E ≡ 0 → ⊥) → (p : ℕ) → p ≡ unitsOf s % N → p ≡ leftOver N x s
+    unfolding leftOver
+    over-rest n p e = rw (h, ← risk, ne-eqb E 0 n) e
 
 -- ---- the states that follow those of a table, one state after the other
 
 take-next : (S : List State) (i : ℕ) (s : State) → i < length S → s ≡ stateAt S i → take i S ++ (s ∷ []) ≡ take (i + 1) S
-take-next S i s l e = rw (add-one i, e) (sym (take-suc S i (state 0 0 0) l))
+take-next S i s l e = rw (add-one i, e) (sym (take-suc S i noState l))
 
 module _ (N : ℕ) (x : Target) (S : List State) where
   -- those of the first i states, added
@@ -208,7 +211,7 @@ module _ (N : ℕ) (x : Target) (S : List State) where
       omega (
         arith,
         length-add (flatMap (successors N x) (take i S)) [],
-        length-access N x (take i S) (every-take (λ s. size (atRisk x (s .mask)) ≤ N) i S (every-weaker (Workable N x) (λ s. size (atRisk x (s .mask)) ≤ N) (λ s p. p .2) S h)),
+        length-access N x (take i S) (every-take (λ s. size (atRisk N x (s .filled) (s .mask)) ≤ N) i S (every-weaker (Workable N x) (λ s. size (atRisk N x (s .filled) (s .mask)) ≤ N) (λ s p. p .2) S h)),
         mul-le-mul short (suc-le-suc few),
       )
     where
@@ -239,4 +242,4 @@ module _ (N : ℕ) (x : Target) (S : List State) where
   aside-all a m l = ap (λ (U : List State). more a (sumOver (leftOver N x) U)) (take-all m S l)
 
 pub workable-at : (N : ℕ) (x : Target) (S : List State) → Every (Workable N x) S → (i : ℕ) → Workable N x (stateAt S i)
-workable-at N x S h i = every-at (Workable N x) (state 0 0 0) (omega arith, omega arith, omega (arith, size-sub _ 0 (risk-sub x 0), size-zero)) i S h
+workable-at N x S h i = every-at (Workable N x) noState (omega arith, omega arith, omega (arith, size-sub _ 0 (risk-sub N x (record { front = 0; back = 0 }) 0), size-zero)) i S h

@@ -3,6 +3,7 @@ use mathlib.Core.Path.{_≡_, refl, sym, ap, ap₂, _∙_, subst}
 use mathlib.Core.Bool.{Bool, true, false, cond}
 use mathlib.Core.List.{List, [], _∷_, _++_}
 use Prim.Native.Nat.{ℕ, zero, suc, _+_, _-_, _*_, _≤_, _<_}
+use native.Mathlib.Nat.{le-trans}
 use native.Mathlib.Omega.{arith}
 use lib.Dec.{eqb}
 use lib.ListN.{length, getD, set, take, drop, replicate, length-drop, length-take}
@@ -13,26 +14,29 @@ use Rattle.rules.specs.declared.Last.{Last}
 use Rattle.rules.specs.declared.State.{State}
 use Rattle.rules.specs.Units.{whole}
 use Rattle.rules.specs.Contents.{among}
-use Rattle.rules.specs.Table.{state, unitsOf, Work}
+use Rattle.rules.specs.declared.Filled.{Filled}
+use Rattle.rules.specs.Filling.{filledAt, evenly}
+use Rattle.rules.specs.Table.{state, unitsOf, noState, Work}
 use Rattle.rules.specs.Shape.{Every, Shaped, Table}
 use Rattle.rules.specs.Fold.{folded}
 use Rattle.rules.specs.Join.{join}
 use Rattle.rules.specs.Run.{run}
 use Rattle.rules.specs.Input.{Input, cache, nodes, offset, runOf, edgesOf, predecessors}
-use Rattle.rules.specs.Graph.{Worked, tableAt, joinAll, enter, lastBefore, lastsTo, node, worked}
+use Rattle.rules.specs.Graph.{Worked, tableAt, atStart, joinAll, enter, lastBefore, lastsTo, node, worked}
 use Rattle.rules.proofs.Lookup.{among-every}
-use Rattle.rules.proofs.Refusals.{Checked, predecessor-lower}
+use Rattle.rules.proofs.Filling.{evenly-most}
+use Rattle.rules.proofs.Refusals.{counts-some, counts-few, Checked, predecessor-lower}
 use Rattle.rules.proofs.Run.{table-wider, table-run}
 use Rattle.rules.proofs.Graph.{nodeTable, table-stays, first-and-others, table-enter, aside-enter, aside-worked, run-within, run-long, every-node}
 use Rattle.words.specs.Tables.{tableOf}
 use Rattle.estimate.specs.Rooms.{Stands, InPlace, NodeDone, filled, slotOf, tableIn, tablesIn, workedIn}
 use Rattle.estimate.specs.Edges.{cameFrom, AtEdge}
-use Rattle.estimate.specs.Working.{workAt, Ready, Startable}
+use Rattle.estimate.specs.Working.{workAt, startsEmptyOf, startOf, InRange, Ready, Startable}
 use Rattle.words.proofs.Tables.{fits-table}
 use Rattle.estimate.proofs.Scratch.{stretch-long}
 use Rattle.refusals.proofs.Reasons.{edges-next, edges-end}
 use Rattle.estimate.proofs.Settling.{stands-work}
-use Rattle.estimate.proofs.Nodes.{paste-take, paste-there, tableIn-kept, tablesIn-kept, tablesIn-at, seal-table, seal-before}
+use Rattle.estimate.proofs.Nodes.{paste-take, paste-there, counted, counted-few, tableIn-kept, tablesIn-kept, tablesIn-at, seal-table, seal-before}
 
 -- ---- the edges into a node
 
@@ -57,23 +61,6 @@ module _ (ns : List ℕ) (j e : ℕ) where
 
 -- ---- the table in a slot, counted
 
-filled-most : (T : List State) → filled T ≤ length T
-unfolding filled
-filled-most [] = omega arith
-filled-most (s ∷ T) = go (eqb (unitsOf s) 0) (filled-most T)
-  where
-    go : (b : Bool) → filled T ≤ length T → cond b 0 (suc (filled T)) ≤ suc (length T)
-    go true h = omega arith
-    go false h = omega arith
-
-module _ (p m : ℕ) (T : List State) (count : m ≡ filled (slotOf p T)) where
-  pub counted-few : m ≤ 64
-  counted-few = omega (arith, filled-most (slotOf p T), length-take 64 (drop (p * 64) T))
-
-  pub counted : take m (drop (p * 64) T) ≡ tableIn p T
-  unfolding tableIn
-  counted = sym (take-take m 64 (drop (p * 64) T) counted-few) ∙ ap (λ (k : ℕ). take k (slotOf p T)) count
-
 -- the table that node p left, as it stands when the slots before node j's are as they were
 table-left : (j p a m : ℕ) (T₀ T : List State) → p < j → m ≡ filled (slotOf p T) → take (j * 64) T ≡ take (j * 64) T₀ → take m (drop (p * 64) T) ≡ tableAt (workedIn j a T₀) p
 table-left j p a m T₀ T l c e = counted p m T c ∙ tableIn-kept p (j * 64) T₀ T (omega arith) e ∙ sym (tablesIn-at j T₀ p l)
@@ -94,7 +81,7 @@ module _ (K j a₀ : ℕ) (T₀ : List State) where
       ∙ sym (ap (λ (Q : List ℕ). joinAll K (workedIn j a₀ T₀) Q (workAt (j * 64) n a ws)) r) ∙ h
 
   -- all are joined
-  pub joined : (R : List ℕ) (n a : ℕ) (ws : List ℕ) (W : Work) → R ≡ [] → n ≤ 64 → j < 64 → 15552 ≤ length ws
+  pub joined : (R : List ℕ) (n a : ℕ) (ws : List ℕ) (W : Work) → R ≡ [] → n ≤ 64 → j < 64 → 25920 ≤ length ws
       → take (j * 64) (tableOf ws) ≡ take (j * 64) T₀ → joinAll K (workedIn j a₀ T₀) R (workAt (j * 64) n a ws) ≡ W → InPlace W (j * 64) n a T₀ (tableOf ws)
   unfolding joinAll
   joined R n a ws W r few node long e h =
@@ -105,13 +92,13 @@ module _ (K j a₀ : ℕ) (T₀ : List State) where
       }
 
   -- a node without predecessors starts from the start
-  pub enter-none : (R : List ℕ) (T : List State) → R ≡ [] → 5184 ≤ length T₀ → j < 64 → T ≡ set T₀ (j * 64) (state 0 0 whole) → InPlace (enter K (workedIn j a₀ T₀) R) (j * 64) 1 a₀ T₀ T
+  pub enter-none : (F : Filled) (R : List ℕ) (T : List State) → R ≡ [] → 5184 ≤ length T₀ → j < 64 → T ≡ set T₀ (j * 64) (state 0 0 F whole) → InPlace (enter K F (workedIn j a₀ T₀) R) (j * 64) 1 a₀ T₀ T
   unfolding enter
-  enter-none R T r long node q =
+  enter-none F R T r long node q =
       rw r
       record {
-        stands = record { count = refl; table = ap (λ (U : List State). take 1 (drop (j * 64) U)) q ∙ set-there (j * 64) T₀ (state 0 0 whole) (omega arith); aside = refl };
-        before = ap (take (j * 64)) q ∙ set-before (j * 64) T₀ (state 0 0 whole);
+        stands = record { count = refl; table = ap (λ (U : List State). take 1 (drop (j * 64) U)) q ∙ set-there (j * 64) T₀ (state 0 0 F whole) (omega arith); aside = refl };
+        before = ap (take (j * 64)) q ∙ set-before (j * 64) T₀ (state 0 0 F whole);
       }
     where
       set-there : (i : ℕ) (T : List State) (s : State) → i < length T → take 1 (drop i (set T i s)) ≡ s ∷ []
@@ -125,12 +112,12 @@ module _ (K j a₀ : ℕ) (T₀ : List State) where
       set-before (suc i) (t ∷ T) s = ap (t ∷_) (set-before i T s)
 
   -- the first predecessor's table is copied, and the others are joined to it
-  pub enter-some : (R R′ : List ℕ) (p m n a : ℕ) (ws ws₁ : List ℕ) (T : List State) → tableOf ws ≡ T₀ → R ≡ p ∷ R′ → p < j → j < 64 → 15552 ≤ length ws → m ≡ filled (slotOf p T₀)
+  pub enter-some : (F : Filled) (R R′ : List ℕ) (p m n a : ℕ) (ws ws₁ : List ℕ) (T : List State) → tableOf ws ≡ T₀ → R ≡ p ∷ R′ → p < j → j < 64 → 25920 ≤ length ws → m ≡ filled (slotOf p T₀)
       → tableOf ws₁ ≡ paste T₀ (j * 64) (drop (p * 64) T₀) m
       → InPlace (joinAll K (workedIn j a₀ (tableOf ws₁)) R′ (workAt (j * 64) m a₀ ws₁)) (j * 64) n a (tableOf ws₁) T
-      → InPlace (enter K (workedIn j a₀ T₀) R) (j * 64) n a T₀ T
+      → InPlace (enter K F (workedIn j a₀ T₀) R) (j * 64) n a T₀ T
   unfolding enter
-  enter-some R R′ p m n a ws ws₁ T w r l node long c q g =
+  enter-some F R R′ p m n a ws ws₁ T w r l node long c q g =
       rw r
       record {
         stands = subst (λ (W : Work). Stands W n a (drop (j * 64) T)) (ap₂ (λ (d : Worked) (v : Work). joinAll K d R′ v) tables copied) (g .stands);
@@ -161,32 +148,43 @@ pub every-among : (P : ℕ → Type 0) (ps : List ℕ) → ((p : ℕ) → among 
 every-among P [] h = tt
 every-among P (q ∷ ps) h = let (a, b) = first-and-others P q ps h in (a, every-among P ps b)
 
+-- no more ways may be filled at the start than there are
+start-few : (c : Cache) (ts : List ℕ) (K : ℕ) → InRange c ts K → (j : ℕ) → filledAt (startOf c) j ≤ c .ways
+start-few c ts K r j = go (startsEmptyOf c)
+  where
+    go : (b : Bool) → filledAt (evenly (c .sets) (cond b 0 (c .ways))) j ≤ c .ways
+    go true = le-trans (evenly-most (c .sets) 0 (counts-few (c .sets) (r .known-sets)) (omega arith) j) (omega arith)
+    go false = evenly-most (c .sets) (c .ways) (counts-few (c .sets) (r .known-sets)) (omega (arith, r .few-ways)) j
+
 module _ (c : Cache) (ts : List ℕ) (K M j a : ℕ) (es ws : List ℕ) (s : Startable c ts K M j a es ws) where
   -- what it starts from can be worked on
   pub entered-ready : (n a′ : ℕ) (ws₁ : List ℕ) → length ws₁ ≡ length ws
-      → InPlace (enter K (workedIn j a (tableOf ws)) (predecessors (edgesOf es) j)) (j * 64) n a′ (tableOf ws) (tableOf ws₁) → Ready c ts K M (j * 64) n a′ ws₁
+      → InPlace (enter K (startOf c) (workedIn j a (tableOf ws)) (predecessors (edgesOf es) j)) (j * 64) n a′ (tableOf ws) (tableOf ws₁) → Ready c ts K M (j * 64) n a′ ws₁
   entered-ready n a′ ws₁ e g =
       record {
         ranges = s .ranges;
         room = rw e (s .room);
         slot = omega (arith, s .node);
         count = omega (arith, g .stands .count, t .short, s .ranges .few-states);
-        aside = rw (g .stands .aside) (aside-enter K (workedIn j a (tableOf ws)) (predecessors (edgesOf es) j) (s .aside));
+        aside = rw (g .stands .aside) (aside-enter K (workedIn j a (tableOf ws)) (startOf c) (predecessors (edgesOf es) j) (s .aside));
         table = rw (g .stands .table) t;
       }
     where
       left : (p : ℕ) → among (predecessors (edgesOf es) j) p ≡ true → Table (c .ways) (c .sets) ts K M (tableAt (workedIn j a (tableOf ws)) p)
       left p e = let l = among-every (λ p. p < j) (predecessors (edgesOf es) j) p e (s .lower) in rw (tablesIn-at j (tableOf ws) p l) (s .tables p l)
 
-      t : Table (c .ways) (c .sets) ts K M (enter K (workedIn j a (tableOf ws)) (predecessors (edgesOf es) j) .table)
-      t = table-enter (c .ways) (c .sets) ts K (s .ranges .some-ways) (s .ranges .some-states) M (workedIn j a (tableOf ws)) (predecessors (edgesOf es) j) left
+      t : Table (c .ways) (c .sets) ts K M (enter K (startOf c) (workedIn j a (tableOf ws)) (predecessors (edgesOf es) j) .table)
+      t =
+          table-enter (c .ways) (c .sets) ts K (s .ranges .some-ways) (s .ranges .few-ways) (s .ranges .some-states) M (workedIn j a (tableOf ws)) (startOf c)
+          (start-few c ts K (s .ranges)) (predecessors (edgesOf es) j) left
 
 -- its run leaves a table
 module _ (c : Cache) (ts : List ℕ) (K p n a : ℕ) (l : Last) (bs ws : List ℕ) (short : length bs ≤ 4096) (r : Ready c ts K (4096 - length bs) p n a ws) where
   node-table : Table (c .ways) (c .sets) ts K 4096 (run (c .ways) (c .sets) K ts l bs (workAt p n a ws) .table)
   node-table =
       table-wider (c .ways) (c .sets) ts K (length bs + (4096 - length bs)) 4096 _ (omega arith)
-      (table-run (c .ways) (c .sets) K ts (r .ranges .some-ways) (r .ranges .some-states) (4096 - length bs) l bs (workAt p n a ws) (r .table))
+      (table-run (c .ways) (c .sets) K ts (r .ranges .some-ways) (r .ranges .few-ways) (counts-some (c .sets) (r .ranges .known-sets)) (counts-few (c .sets) (r .ranges .known-sets))
+      (r .ranges .some-states) (4096 - length bs) l bs (workAt p n a ws) (r .table))
 
   pub node-few : (m b : ℕ) (T : List State) → InPlace (run (c .ways) (c .sets) K ts l bs (workAt p n a ws)) p m b (tableOf ws) T → m ≤ 64
   node-few m b T g = omega (arith, g .stands .count, node-table .short, r .ranges .few-states)
@@ -198,10 +196,10 @@ some-units N Z ts M (s ∷ T) h = (h .0 .1, some-units N Z ts M T (h .1))
 -- which is found again in its slot
 pub node-done : (c : Cache) (ts : List ℕ) (K j a n a₁ m b : ℕ) (l : Last) (bs es ws ws₁ ws₂ : List ℕ) (T : List State) → length bs ≤ 4096
     → Startable c ts K (4096 - length bs) j a es ws
-    → length ws₁ ≡ length ws → InPlace (enter K (workedIn j a (tableOf ws)) (predecessors (edgesOf es) j)) (j * 64) n a₁ (tableOf ws) (tableOf ws₁)
+    → length ws₁ ≡ length ws → InPlace (enter K (startOf c) (workedIn j a (tableOf ws)) (predecessors (edgesOf es) j)) (j * 64) n a₁ (tableOf ws) (tableOf ws₁)
     → length ws₂ ≡ length ws₁ → InPlace (run (c .ways) (c .sets) K ts l bs (workAt (j * 64) n a₁ ws₁)) (j * 64) m b (tableOf ws₁) (tableOf ws₂)
-    → T ≡ paste (tableOf ws₂) (j * 64 + m) (replicate 64 (state 0 0 0)) (64 - m)
-    → NodeDone (run (c .ways) (c .sets) K ts l bs (enter K (workedIn j a (tableOf ws)) (predecessors (edgesOf es) j))) j b (tableOf ws) T
+    → T ≡ paste (tableOf ws₂) (j * 64 + m) (replicate 64 noState) (64 - m)
+    → NodeDone (run (c .ways) (c .sets) K ts l bs (enter K (startOf c) (workedIn j a (tableOf ws)) (predecessors (edgesOf es) j))) j b (tableOf ws) T
 node-done c ts K j a n a₁ m b l bs es ws ws₁ ws₂ T short s e g f h q =
     rw (← stands-work _ (j * 64) n a₁ ws₁ (tableOf ws) g)
     record {
@@ -227,6 +225,10 @@ node-done c ts K j a n a₁ m b l bs es ws ws₁ ws₂ T short s e g f h q =
 
 -- ---- one node after the other
 
+-- the cache of an input
+abbrev pub cacheOf : Input → Cache
+cacheOf i = cache (i .sets) (i .ways) (i .revision)
+
 pub offset-start : (lengths : List ℕ) → 0 ≡ offset lengths 0
 unfolding offset
 offset-start lengths = refl
@@ -245,14 +247,14 @@ module _ (i : Input) (ok : Checked i) (j : ℕ) (l : j < nodes i) where
       long = omega arith
 
   -- it can be worked where the nodes before it are
-  pub node-startable : (a m : ℕ) (ws : List ℕ) → workedIn j a (tableOf ws) ≡ worked i j → 15552 ≤ length ws → m ≡ length (runOf i j)
-      → Startable (cache (i .sets) (i .ways)) (i .tracked) (i .limit) (4096 - m) j a (i .edges) ws
+  pub node-startable : (a m : ℕ) (ws : List ℕ) → workedIn j a (tableOf ws) ≡ worked i j → 25920 ≤ length ws → m ≡ length (runOf i j)
+      → Startable (cacheOf i) (i .tracked) (i .limit) (4096 - m) j a (i .edges) ws
   node-startable a m ws d room e =
       record {
         ranges = record { some-ways = ok .some-ways; few-ways = ok .few-ways; known-sets = ok .known-sets; few-tracked = ok .few-tracked; some-states = ok .some-states; few-states = ok .few-states };
         room = room;
         node = omega (arith, ok .few-nodes, l);
-        aside = subst (λ (d : Worked). d .aside ≤ whole) (sym d) (aside-worked i (ok .some-ways) (ok .some-states) j);
+        aside = subst (λ (d : Worked). d .aside ≤ whole) (sym d) (aside-worked i j);
         lower = every-among (λ p. p < j) (predecessors (edgesOf (i .edges)) j) (λ p e. predecessor-lower i ok p j e .0);
         tables = λ p k. rw (tables p k)
             (table-wider (i .ways) (i .sets) (i .tracked) (i .limit) (offset (i .lengths) j) (4096 - m) _ (omega (arith, e, run-long i ok j l, run-within i ok j l, ok .few-accesses))
@@ -264,11 +266,11 @@ module _ (i : Input) (ok : Checked i) (j : ℕ) (l : j < nodes i) where
 
   -- and then one more is
   pub nodes-next : (a b : ℕ) (l : Last) (T T′ : List State) → workedIn j a T ≡ worked i j → l ≡ lastBefore (lastsTo i j) (predecessors (edgesOf (i .edges)) j)
-      → NodeDone (run (i .ways) (i .sets) (i .limit) (i .tracked) l (runOf i j) (enter (i .limit) (workedIn j a T) (predecessors (edgesOf (i .edges)) j))) j b T T′
+      → NodeDone (run (i .ways) (i .sets) (i .limit) (i .tracked) l (runOf i j) (enter (i .limit) (startOf (cacheOf i)) (workedIn j a T) (predecessors (edgesOf (i .edges)) j))) j b T T′
       → workedIn (suc j) b T′ ≡ worked i (suc j)
-  unfolding worked node tablesIn
+  unfolding worked node atStart tablesIn
   nodes-next a b l T T′ d e h =
       ap₂ (λ (X : List (List State)) (b : ℕ). record { tables = X; aside = b })
       (ap₂ (λ (X : List (List State)) (Y : List State). X ++ (Y ∷ [])) (tablesIn-kept j (j * 64) T T′ (omega arith) (h .before)) (h .table)) (h .aside)
-      ∙ ap₂ (λ (d : Worked) (l : Last). let w = run (i .ways) (i .sets) (i .limit) (i .tracked) l (runOf i j) (enter (i .limit) d (predecessors (edgesOf (i .edges)) j)) in
+      ∙ ap₂ (λ (d : Worked) (l : Last). let w = run (i .ways) (i .sets) (i .limit) (i .tracked) l (runOf i j) (enter (i .limit) (startOf (cacheOf i)) d (predecessors (edgesOf (i .edges)) j)) in
       record { tables = d .tables ++ (w .table ∷ []); aside = w .aside }) d e

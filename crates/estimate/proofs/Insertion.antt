@@ -13,44 +13,58 @@ use lib.Seq.{take-suc, append-snoc, set-at, take-at, drop-cons, getD-take, drop-
 use borrow.Author.Tests.{lt-ltb, le-ltb, eq-eqb, ne-eqb, ltb-true}
 use Rattle.basics.proofs.Bools.{and-left, and-right}
 use Rattle.rules.specs.declared.State.{State}
-use Rattle.rules.specs.Ordered.{Order, before, same, after, byNumber, thenBy, insert, inserted, insertAll}
-use Rattle.rules.specs.Table.{state, unitsOf, order, rising, plus, present, add, stateAt}
+use Rattle.rules.specs.Ordered.{Order, before, same, after, byNumber, thenBy, byTwo, isBefore, insert, inserted, insertAll}
+use Rattle.rules.specs.Filling.{sameFilled}
+use Rattle.rules.specs.Table.{unitsOf, order, rising, plus, present, add, noState, stateAt}
 use Rattle.rules.specs.Shape.{Every}
-use Rattle.rules.proofs.Ordered.{number-cases, order-after}
+use Rattle.rules.proofs.Ordered.{number-cases, turned, state-orders, order-after}
 use Rattle.rules.proofs.Table.{Rising, rising-so}
 use Rattle.estimate.specs.Placing.{isAfter, isSame, placeOf, Inserted, Added}
 
 -- ---- the order of two states
 
+same-then : (o p : Order) → isSame (thenBy o p) ≡ (isSame o && isSame p)
+same-then before p = refl
+same-then same p = refl
+same-then after p = refl
+
+same-number : (a b : ℕ) → isSame (byNumber a b) ≡ eqb a b
+same-number a b =
+    number-cases a b (λ o. isSame o ≡ eqb a b) (λ l. sym (ne-eqb a b (λ e. absurd (omega arith)))) (λ e. sym (eq-eqb a b e))
+    (λ l. sym (ne-eqb a b (λ e. absurd (omega arith))))
+
 module _ (s t : State) where
-  by-mask : (P : Order → Type 0) → (s .mask < t .mask → P before) → (s .mask ≡ t .mask → P (byNumber (s .misses) (t .misses)))
-      → (t .mask < s .mask → P after) → P (order s t)
+  pub after-turned : (r : Bool) → r ≡ isBefore (order t s) → r ≡ isAfter (order s t)
+  after-turned r e = e ∙ ap isBefore (state-orders .turn s t) ∙ go (order s t)
+    where
+      go : (o : Order) → isBefore (turned o) ≡ isAfter o
+      go before = refl
+      go same = refl
+      go after = refl
+
+  -- two states stand in the same place where all their numbers are equal
+  pub same-tests : isSame (order s t) ≡ (eqb (s .mask) (t .mask) && eqb (s .misses) (t .misses) && sameFilled (s .filled) (t .filled))
   unfolding order
-  by-mask P = number-cases (s .mask) (t .mask) (λ o. P (thenBy o (byNumber (s .misses) (t .misses))))
-
-  pub mask-after : t .mask < s .mask → true ≡ isAfter (order s t)
-  mask-after l = by-mask (λ o. true ≡ isAfter o) (λ k. absurd (omega arith)) (λ e. absurd (omega arith)) (λ k. refl)
-
-  pub mask-before : s .mask < t .mask → false ≡ isAfter (order s t)
-  mask-before l = by-mask (λ o. false ≡ isAfter o) (λ k. refl) (λ e. absurd (omega arith)) (λ k. absurd (omega arith))
-
-  pub misses-after : s .mask ≡ t .mask → ltb (t .misses) (s .misses) ≡ isAfter (order s t)
-  misses-after e =
-      by-mask (λ o. ltb (t .misses) (s .misses) ≡ isAfter o) (λ k. absurd (omega arith))
-      (λ d. number-cases (s .misses) (t .misses) (λ o. ltb (t .misses) (s .misses) ≡ isAfter o)
-      (λ k. le-ltb (t .misses) (s .misses) (omega arith)) (λ k. le-ltb (t .misses) (s .misses) (omega arith)) (λ k. lt-ltb _ _ k))
-      (λ k. absurd (omega arith))
-
-  pub misses-same : s .mask ≡ t .mask → eqb (s .misses) (t .misses) ≡ isSame (order s t)
-  misses-same e =
-      by-mask (λ o. eqb (s .misses) (t .misses) ≡ isSame o) (λ k. absurd (omega arith))
-      (λ d. number-cases (s .misses) (t .misses) (λ o. eqb (s .misses) (t .misses) ≡ isSame o)
-      (λ k. ne-eqb (s .misses) (t .misses) (λ q. absurd (omega arith))) (λ k. eq-eqb _ _ k)
-      (λ k. ne-eqb (s .misses) (t .misses) (λ q. absurd (omega arith))))
-      (λ k. absurd (omega arith))
+  same-tests =
+      rw (
+        same-then _ (byTwo (λ s. s .filled .front) (λ s. s .filled .back) s t),
+        same-then (byNumber (s .mask) (t .mask)) (byNumber (s .misses) (t .misses)),
+        same-then (byNumber (s .filled .front) (t .filled .front)) (byNumber (s .filled .back) (t .filled .back)),
+        same-number (s .mask) (t .mask),
+        same-number (s .misses) (t .misses),
+        same-number (s .filled .front) (t .filled .front),
+        same-number (s .filled .back) (t .filled .back),
+      )
 
   pub mask-apart : (s .mask ≡ t .mask → ⊥) → false ≡ isSame (order s t)
-  mask-apart n = by-mask (λ o. false ≡ isSame o) (λ k. refl) (λ e. absurd (n e)) (λ k. refl)
+  mask-apart n = rw (same-tests, ne-eqb (s .mask) (t .mask) n)
+
+  module _ (mask : s .mask ≡ t .mask) where
+    pub misses-apart : (s .misses ≡ t .misses → ⊥) → false ≡ isSame (order s t)
+    misses-apart n = rw (same-tests, eq-eqb (s .mask) (t .mask) mask, ne-eqb (s .misses) (t .misses) n)
+
+    pub filled-same : s .misses ≡ t .misses → (r : Bool) → r ≡ sameFilled (s .filled) (t .filled) → r ≡ isSame (order s t)
+    filled-same e r h = rw (same-tests, eq-eqb (s .mask) (t .mask) mask, eq-eqb (s .misses) (t .misses) e) h
 
 -- ---- where a state belongs
 
@@ -120,7 +134,7 @@ module _ (s : State) (n : ℕ) (T : List State) (room : n ≤ length T) where
 
   module _ (m : ℕ) (t : State) (r : Bool) (l : m < n) (p : t ≡ stateAt T m) (q : r ≡ isAfter (order s t)) where
     there : r ≡ isAfter (order s (stateAt (take n T) m))
-    there = q ∙ rw (p, getD-take n T m (state 0 0 0) l)
+    there = q ∙ rw (p, getD-take n T m noState l)
 
     pub seek-up : rising (take n T) ≡ true → r ≡ true → Passed s (take n T) (m + 1)
     seek-up h e = rw (add-one m) (passed-up s (take n T) h m (omega (arith, length-take-le n T room)) (sym e ∙ there))
@@ -194,7 +208,7 @@ module _ (s : State) (n at : ℕ) (T T′ : List State) (room : n ≤ length T) 
       }
     where
       here : stateAt (take n T) at ≡ t
-      here = getD-take n T at (state 0 0 0) l ∙ sym p
+      here = getD-take n T at noState l ∙ sym p
 
       is : insert order plus s (take n T) ≡ set (take n T) at y
       is = insert-same s (take n T) at e (omega (arith, long)) (rw here h) ∙ rw (here, q)
@@ -211,7 +225,7 @@ module _ (s : State) (n at : ℕ) (T T′ : List State) (room : n ≤ length T) 
       below = rw e (place-least s (take n T))
 
       is : insert order plus s (take n T) ≡ take at (take n T) ++ (s ∷ drop at (take n T))
-      is = insert-open s (take n T) at e (λ l. rw (getD-take n T at (state 0 0 0) (omega (arith, long))) (h (omega (arith, long))))
+      is = insert-open s (take n T) at e (λ l. rw (getD-take n T at noState (omega (arith, long))) (h (omega (arith, long))))
 
 -- ---- states of 0 units vanish
 
@@ -234,7 +248,7 @@ added-none s n T room none = record { count = sym (length-take-le n T room) ∙ 
 -- the first n states of a table
 module _ (t : List State) (n : ℕ) (room : n ≤ length t) where
   pub rows-from : (i : ℕ) → i < n → drop i (take n t) ≡ stateAt t i ∷ drop (i + 1) (take n t)
-  rows-from i h = rw (add-one i, ← getD-take n t i (state 0 0 0) h) (drop-cons (take n t) i (state 0 0 0) (omega (arith, length-take-le n t room)))
+  rows-from i h = rw (add-one i, ← getD-take n t i noState h) (drop-cons (take n t) i noState (omega (arith, length-take-le n t room)))
 
   pub rows-end : drop n (take n t) ≡ []
   rows-end = ap (λ (k : ℕ). drop k (take n t)) (sym (length-take-le n t room)) ∙ drop-length (take n t)
@@ -252,13 +266,13 @@ module _ (t : List State) (n : ℕ) (room : n < length t) where
   -- the state at j, before what has moved
   moved-split : (j : ℕ) → j ≤ n → moved j n t ≡ take j t ++ (stateAt t j ∷ (drop j (take n t) ++ drop (suc n) t))
   unfolding moved
-  moved-split j h = rw (take-suc t j (state 0 0 0) (omega arith)) (append-snoc (take j t) (stateAt t j) (drop j (take n t) ++ drop (suc n) t))
+  moved-split j h = rw (take-suc t j noState (omega arith)) (append-snoc (take j t) (stateAt t j) (drop j (take n t) ++ drop (suc n) t))
 
   moved-at : (j : ℕ) → suc j ≤ n → stateAt (moved (suc j) n t) j ≡ stateAt t j
   unfolding moved
   moved-at j h =
-      List·getD-append (take (suc (suc j)) t) _ (state 0 0 0) j (omega (arith, length-take-le (suc (suc j)) t (omega arith)))
-      ∙ getD-take (suc (suc j)) t j (state 0 0 0) (omega arith)
+      List·getD-append (take (suc (suc j)) t) _ noState j (omega (arith, length-take-le (suc (suc j)) t (omega arith)))
+      ∙ getD-take (suc (suc j)) t j noState (omega arith)
 
   moved-tail : (j : ℕ) → suc j ≤ n → moved j n t ≡ take (suc j) t ++ (stateAt t j ∷ (drop (suc j) (take n t) ++ drop (suc n) t))
   unfolding moved

@@ -1,5 +1,7 @@
 -- States put where they belong
 pub mod Insertion
+-- The filled numbers
+pub mod Numbers
 -- Masks, and looking up a block
 pub mod Masks
 -- The scratch of the working room
@@ -19,6 +21,7 @@ pub mod Graphs
 -- The block accessed directly before
 pub mod Lasts
 -- What a call leaves
+pub mod Handing
 pub mod Calls
 -- and that it can be asked
 pub mod Finished

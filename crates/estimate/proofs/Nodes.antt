@@ -1,16 +1,18 @@
 -- The slots: a table with no states behind it is found again, whatever was there before.
 use mathlib.Core.Path.{_≡_, refl, sym, ap, ap₂, _∙_}
+use mathlib.Core.Bool.{Bool, true, false, cond}
 use mathlib.Core.Logic.{_⊎_, inl, inr}
 use mathlib.Core.List.{List, [], _∷_, _++_, append-assoc}
 use Prim.Native.Nat.{ℕ, zero, suc, _+_, _-_, _*_, _≤_, _<_}
 use native.Mathlib.Nat.{zero-add, suc-add, not-suc-le-zero, le-of-suc-le-suc, eq-or-lt-of-le}
 use native.Mathlib.Numerals.{add-one}
 use native.Mathlib.Omega.{arith}
-use lib.ListN.{length, getD, set, take, drop, replicate, length-append, length-drop, length-replicate, getD-replicate, replicate-append-replicate, List·getD-append, drop-of-length-le}
+use lib.Dec.{eqb}
+use lib.ListN.{length, getD, set, take, drop, replicate, length-append, length-drop, length-take, length-replicate, getD-replicate, replicate-append-replicate, List·getD-append, drop-of-length-le}
 use lib.Seq.{paste, paste-suc, length-paste-head, getD-take, getD-drop, getD-at, getD-append-add, length-take-le, take-at, take-take, take-nil, take-append-le, drop-at, drop-append-le, drop-cons}
 use borrow.Author.Tests.{eq-eqb, ne-eqb}
 use Rattle.rules.specs.declared.State.{State}
-use Rattle.rules.specs.Table.{state, unitsOf, stateAt}
+use Rattle.rules.specs.Table.{unitsOf, noState, stateAt}
 use Rattle.rules.specs.Shape.{Every}
 use Rattle.estimate.specs.Rooms.{filled, slotOf, tableIn, tablesIn}
 use Rattle.estimate.proofs.Scratch.{stretch-kept}
@@ -21,14 +23,14 @@ use Rattle.estimate.proofs.Scratch.{stretch-kept}
 paste-before : (T S : List State) (to n k : ℕ) → to ≤ length T → k < to → stateAt (paste T to S n) k ≡ stateAt T k
 paste-before T S to n k h l =
     ap (λ (U : List State). stateAt U k) (append-assoc (take to T) (take n S) (drop (to + n) T))
-    ∙ List·getD-append (take to T) (take n S ++ drop (to + n) T) (state 0 0 0) k (omega (arith, length-take-le to T h))
-    ∙ getD-take to T k (state 0 0 0) l
+    ∙ List·getD-append (take to T) (take n S ++ drop (to + n) T) noState k (omega (arith, length-take-le to T h))
+    ∙ getD-take to T k noState l
 
 paste-behind : (T S : List State) (to n k : ℕ) → to ≤ length T → n ≤ length S → to + n ≤ k → stateAt (paste T to S n) k ≡ stateAt T k
 paste-behind T S to n k h m l =
     ap (stateAt (paste T to S n)) at
-    ∙ getD-append-add (take to T ++ take n S) (drop (to + n) T) (k - (to + n)) (state 0 0 0)
-    ∙ getD-drop (to + n) T (k - (to + n)) (state 0 0 0)
+    ∙ getD-append-add (take to T ++ take n S) (drop (to + n) T) (k - (to + n)) noState
+    ∙ getD-drop (to + n) T (k - (to + n)) noState
     ∙ ap (stateAt T) (omega arith)
   where
     at : k ≡ length (take to T ++ take n S) + (k - (to + n))
@@ -63,7 +65,7 @@ paste-there T S to n h l =
 -- a turn of the loop that copies; what is copied from reads as it did, since the two stretches do not meet
 module _ (T : List State) (from to n i : ℕ) (here : from + n ≤ length T) (there : to + n ≤ length T) (apart : (to + n ≤ from) ⊎ (from + n ≤ to)) (l : i < n) where
   copy-reads : stateAt (paste T to (drop from T) i) (from + i) ≡ stateAt (drop from T) i
-  copy-reads = go apart ∙ sym (getD-drop from T i (state 0 0 0))
+  copy-reads = go apart ∙ sym (getD-drop from T i noState)
     where
       go : (to + n ≤ from) ⊎ (from + n ≤ to) → stateAt (paste T to (drop from T) i) (from + i) ≡ stateAt T (from + i)
       go (inl h) = paste-behind T (drop from T) to i (from + i) (omega arith) (omega (arith, length-drop from T)) (omega arith)
@@ -72,16 +74,16 @@ module _ (T : List State) (from to n i : ℕ) (here : from + n ≤ length T) (th
   pub copy-turn : (U U′ : List State) (s : State) → U ≡ paste T to (drop from T) i → s ≡ stateAt U (from + i) → U′ ≡ set U (to + i) s
       → U′ ≡ paste T to (drop from T) (i + 1)
   copy-turn U U′ s p q r =
-      r ∙ rw (add-one i, q, p, copy-reads) (paste-suc T to (drop from T) i (state 0 0 0) (omega arith) (omega (arith, length-drop from T)))
+      r ∙ rw (add-one i, q, p, copy-reads) (paste-suc T to (drop from T) i noState (omega arith) (omega (arith, length-drop from T)))
 
 -- blanks pasted one by one
 module _ (T : List State) (at n i : ℕ) (room : at + 64 ≤ length T) (low : n ≤ i) (l : i < 64) where
-  pub seal-turn : (U U′ : List State) → U ≡ paste T (at + n) (replicate 64 (state 0 0 0)) (i - n) → U′ ≡ set U (at + i) (state 0 0 0)
-      → U′ ≡ paste T (at + n) (replicate 64 (state 0 0 0)) (i + 1 - n)
+  pub seal-turn : (U U′ : List State) → U ≡ paste T (at + n) (replicate 64 noState) (i - n) → U′ ≡ set U (at + i) noState
+      → U′ ≡ paste T (at + n) (replicate 64 noState) (i + 1 - n)
   seal-turn U U′ p q =
       q ∙ rw (p, next, at-place)
-      (ap (set (paste T (at + n) (replicate 64 (state 0 0 0)) (i - n)) (at + n + (i - n))) (sym (getD-replicate 64 (i - n) (state 0 0 0) (state 0 0 0) (omega arith)))
-      ∙ paste-suc T (at + n) (replicate 64 (state 0 0 0)) (i - n) (state 0 0 0) (omega arith) (omega (arith, length-replicate 64 (state 0 0 0))))
+      (ap (set (paste T (at + n) (replicate 64 noState) (i - n)) (at + n + (i - n))) (sym (getD-replicate 64 (i - n) noState noState (omega arith)))
+      ∙ paste-suc T (at + n) (replicate 64 noState) (i - n) noState (omega arith) (omega (arith, length-replicate 64 noState)))
     where
       next : i + 1 - n ≡ suc (i - n)
       next = omega arith
@@ -101,8 +103,8 @@ module _ (T : List State) (at : ℕ) (room : at + 64 ≤ length T) (n : ℕ) whe
 
   rest : n < 64 → drop n (take 64 (drop at T)) ≡ stateAt T (at + n) ∷ drop (suc n) (take 64 (drop at T))
   rest l =
-      drop-cons (take 64 (drop at T)) n (state 0 0 0) (omega (arith, long))
-      ∙ ap (_∷ drop (suc n) (take 64 (drop at T))) (getD-take 64 (drop at T) n (state 0 0 0) l ∙ getD-drop at T n (state 0 0 0))
+      drop-cons (take 64 (drop at T)) n noState (omega (arith, long))
+      ∙ ap (_∷ drop (suc n) (take 64 (drop at T))) (getD-take 64 (drop at T) n noState l ∙ getD-drop at T n noState)
 
   pub filled-here : n < 64 → unitsOf (stateAt T (at + n)) ≡ 0 → FilledTo T at n → n ≡ filled (take 64 (drop at T))
   unfolding filled
@@ -119,40 +121,40 @@ module _ (T : List State) (at : ℕ) (room : at + 64 ≤ length T) (n : ℕ) whe
 -- ---- a table with no states behind it
 
 -- behind a table whose states have units, blanks end it
-filled-padded : (X : List State) (k : ℕ) → Every (λ s. 1 ≤ unitsOf s) X → filled (X ++ replicate k (state 0 0 0)) ≡ length X
+filled-padded : (X : List State) (k : ℕ) → Every (λ s. 1 ≤ unitsOf s) X → filled (X ++ replicate k noState) ≡ length X
 unfolding filled
 filled-padded [] zero h = refl
 filled-padded [] (suc k) h = refl
 filled-padded (s ∷ X) k h = rw (ne-eqb (unitsOf s) 0 (λ e. absurd (omega (arith, h .0)))) (ap suc (filled-padded X k (h .1)))
 
 module _ (T T′ X : List State) (j n : ℕ) (room : j * 64 + 64 ≤ length T) (few : n ≤ 64) (count : n ≡ length X) (table : take n (drop (j * 64) T) ≡ X)
-    (sealed : T′ ≡ paste T (j * 64 + n) (replicate 64 (state 0 0 0)) (64 - n)) where
+    (sealed : T′ ≡ paste T (j * 64 + n) (replicate 64 noState) (64 - n)) where
   pub seal-before : take (j * 64) T′ ≡ take (j * 64) T
-  seal-before = ap (take (j * 64)) sealed ∙ paste-take T (replicate 64 (state 0 0 0)) (j * 64 + n) (64 - n) (j * 64) (omega arith) (omega arith)
+  seal-before = ap (take (j * 64)) sealed ∙ paste-take T (replicate 64 noState) (j * 64 + n) (64 - n) (j * 64) (omega arith) (omega arith)
 
-  padded : slotOf j T′ ≡ X ++ replicate (64 - n) (state 0 0 0)
+  padded : slotOf j T′ ≡ X ++ replicate (64 - n) noState
   padded =
       ap (λ (U : List State). take 64 (drop (j * 64) U)) sealed
-      ∙ ap (take 64) (paste-drop T (replicate 64 (state 0 0 0)) (j * 64) n (64 - n) (omega arith)
+      ∙ ap (take 64) (paste-drop T (replicate 64 noState) (j * 64) n (64 - n) (omega arith)
       ∙ ap₂ (λ (U W : List State). U ++ (W ++ drop (j * 64 + n + (64 - n)) T)) table blanks
-      ∙ sym (append-assoc X (replicate (64 - n) (state 0 0 0)) (drop (j * 64 + n + (64 - n)) T)))
-      ∙ take-at (X ++ replicate (64 - n) (state 0 0 0)) (drop (j * 64 + n + (64 - n)) T) 64 long
+      ∙ sym (append-assoc X (replicate (64 - n) noState) (drop (j * 64 + n + (64 - n)) T)))
+      ∙ take-at (X ++ replicate (64 - n) noState) (drop (j * 64 + n + (64 - n)) T) 64 long
     where
-      blanks : take (64 - n) (replicate 64 (state 0 0 0)) ≡ replicate (64 - n) (state 0 0 0)
+      blanks : take (64 - n) (replicate 64 noState) ≡ replicate (64 - n) noState
       blanks =
-          ap (λ (k : ℕ). take (64 - n) (replicate k (state 0 0 0))) all
-          ∙ ap (take (64 - n)) (sym (replicate-append-replicate (64 - n) n (state 0 0 0)))
-          ∙ take-at (replicate (64 - n) (state 0 0 0)) (replicate n (state 0 0 0)) (64 - n) (length-replicate (64 - n) (state 0 0 0))
+          ap (λ (k : ℕ). take (64 - n) (replicate k noState)) all
+          ∙ ap (take (64 - n)) (sym (replicate-append-replicate (64 - n) n noState))
+          ∙ take-at (replicate (64 - n) noState) (replicate n noState) (64 - n) (length-replicate (64 - n) noState)
         where
           all : 64 ≡ 64 - n + n
           all = omega arith
 
-      long : length (X ++ replicate (64 - n) (state 0 0 0)) ≡ 64
-      long = omega (arith, length-append X (replicate (64 - n) (state 0 0 0)), length-replicate (64 - n) (state 0 0 0))
+      long : length (X ++ replicate (64 - n) noState) ≡ 64
+      long = omega (arith, length-append X (replicate (64 - n) noState), length-replicate (64 - n) noState)
 
   pub seal-table : Every (λ s. 1 ≤ unitsOf s) X → tableIn j T′ ≡ X
   unfolding tableIn
-  seal-table h = rw (padded, filled-padded X (64 - n) h) (take-at X (replicate (64 - n) (state 0 0 0)) (length X) refl)
+  seal-table h = rw (padded, filled-padded X (64 - n) h) (take-at X (replicate (64 - n) noState) (length X) refl)
 
 -- ---- the tables in the first slots
 
@@ -179,3 +181,20 @@ unfolding tablesIn
 tablesIn-kept zero p T T′ l e = refl
 tablesIn-kept (suc j) p T T′ l e =
     ap₂ (λ (U : List (List State)) (X : List State). U ++ (X ∷ [])) (tablesIn-kept j p T T′ (omega arith) e) (tableIn-kept j p T T′ (omega arith) e)
+
+filled-most : (T : List State) → filled T ≤ length T
+unfolding filled
+filled-most [] = omega arith
+filled-most (s ∷ T) = go (eqb (unitsOf s) 0) (filled-most T)
+  where
+    go : (b : Bool) → filled T ≤ length T → cond b 0 (suc (filled T)) ≤ suc (length T)
+    go true h = omega arith
+    go false h = omega arith
+
+module _ (p m : ℕ) (T : List State) (count : m ≡ filled (slotOf p T)) where
+  pub counted-few : m ≤ 64
+  counted-few = omega (arith, filled-most (slotOf p T), length-take 64 (drop (p * 64) T))
+
+  pub counted : take m (drop (p * 64) T) ≡ tableIn p T
+  unfolding tableIn
+  counted = sym (take-take m 64 (drop (p * 64) T) counted-few) ∙ ap (λ (k : ℕ). take k (slotOf p T)) count

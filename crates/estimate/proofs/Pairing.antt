@@ -14,7 +14,7 @@ use lib.Seq.{drop-cons, getD-drop, getD-take}
 use borrow.Author.Tests.{eq-eqb, ne-eqb}
 use Rattle.rules.specs.declared.State.{State}
 use Rattle.rules.specs.Ordered.{insertAll}
-use Rattle.rules.specs.Table.{state, unitsOf, rising, add, stateAt}
+use Rattle.rules.specs.Table.{unitsOf, rising, add, noState, stateAt}
 use Rattle.rules.specs.Fold.{meet}
 use Rattle.rules.specs.Join.{Match, matched, paired, less, leftAfter, placeAfter, walk, fromFront, join}
 use Rattle.rules.proofs.Join.{length-after}
@@ -31,10 +31,10 @@ use Rattle.estimate.proofs.Scratch.{stretch-kept, stretch-long}
 -- the state at a place of the m states at place from; past them there is none
 module _ (T : List State) (from m at : ℕ) where
   pub front-there : (s : State) → at < m → s ≡ stateAt T (from + at) → record { at = at; state = s } ≡ frontAt (take m (drop from T)) at
-  front-there s l e = rw (getD-take m (drop from T) at (state 0 0 0) l, getD-drop from T at (state 0 0 0), e)
+  front-there s l e = rw (getD-take m (drop from T) at noState l, getD-drop from T at noState, e)
 
-  pub front-none : m ≤ at → record { at = at; state = state 0 0 0 } ≡ frontAt (take m (drop from T)) at
-  front-none l = rw (List·getD-eq-default (take m (drop from T)) (state 0 0 0) {n = at} (omega (arith, length-take m (drop from T))))
+  pub front-none : m ≤ at → record { at = at; state = noState } ≡ frontAt (take m (drop from T)) at
+  front-none l = rw (List·getD-eq-default (take m (drop from T)) noState {n = at} (omega (arith, length-take m (drop from T))))
 
 -- the first state is used up, or some of its units are left
 module _ (S : List State) (u : ℕ) (f : Front) where
@@ -65,15 +65,15 @@ left-whole (suc i) (s ∷ S) = left-whole i S
 
 left-some : (S : List State) (f : Front) → f .at < length S → leftOf f S ≡ f .state ∷ drop (suc (f .at)) S
 unfolding leftOf
-left-some S f l = rw (drop-cons S (f .at) (state 0 0 0) l)
+left-some S f l = rw (drop-cons S (f .at) noState l)
 
 left-none : (S : List State) (f : Front) → length S ≤ f .at → leftOf f S ≡ []
 unfolding leftOf
 left-none S f l = rw (drop-of-length-le S {i = f .at} l)
 
--- its first state has the contents and the misses of the table's state at that place
+-- its first state has the contents, the misses and the filled numbers of the table's state at that place
 abbrev pub Like : Front → List State → Type 0
-Like f S = (f .state .mask ≡ stateAt S (f .at) .mask) × (f .state .misses ≡ stateAt S (f .at) .misses)
+Like f S = let s = stateAt S (f .at) in (f .state .mask ≡ s .mask) × (f .state .misses ≡ s .misses) × (f .state .filled ≡ s .filled)
 
 module _ (S : List State) (u : ℕ) (f : Front) where
   left-after : f .at < length S → leftOf (frontAfter S u f) S ≡ leftAfter u (f .state) (drop (suc (f .at)) S)
@@ -95,7 +95,7 @@ module _ (S : List State) (u : ℕ) (f : Front) where
   like-after h = go (eqb (unitsOf (f .state)) u)
     where
       go : (b : Bool) → Like (cond b (frontAt S (suc (f .at))) (record { at = f .at; state = less (f .state) u })) S
-      go true = (refl, refl)
+      go true = (refl, refl, refl)
       go false = h
 
 -- ---- the walk over what is left of both
@@ -169,8 +169,8 @@ so-far-none S T a b p q = rw (p, q) start
     start : SoFar S T (frontAt S 0) (frontAt T 0) 0 []
     start =
         record {
-          left-like = (refl, refl);
-          right-like = (refl, refl);
+          left-like = (refl, refl, refl);
+          right-like = (refl, refl, refl);
           count = refl;
           few = omega (arith, ap length (left-whole 0 S), ap length (left-whole 0 T));
           rises = refl;
@@ -224,13 +224,13 @@ module _ {S T : List State} {a b : Front} {n : ℕ} {X : List State} (g : SoFar 
           }
         where
           is : s ∷ map (matched S T) (toCome a′ b′ S T) ≡ map (matched S T) (toCome a b S T)
-          is = rw next-pair (ap (_∷ map (matched S T) (toCome a′ b′ S T)) (h ∙ rw (g .left-like .0, g .left-like .1, g .right-like .0, g .right-like .1)))
+          is = rw next-pair (ap (_∷ map (matched S T) (toCome a′ b′ S T)) (h ∙ rw (g .left-like .0, g .left-like .1, g .left-like .2, g .right-like .0, g .right-like .1, g .right-like .2)))
 
 -- ---- the loop, in the lent words
 
 -- the two tables stand in the slots, and behind those there is room for their join
 abbrev pub InSlots : ℕ → ℕ → ℕ → ℕ → List ℕ → Type 0
-InSlots left m right k ws = (m ≤ 64) × (k ≤ 64) × (left + m ≤ 4096) × (right + k ≤ 4096) × (15552 ≤ length ws)
+InSlots left m right k ws = (m ≤ 64) × (k ≤ 64) × (left + m ≤ 4096) × (right + k ≤ 4096) × (25920 ≤ length ws)
 
 -- the m states from place i on
 abbrev pub statesAt : ℕ → ℕ → List ℕ → List State
@@ -273,7 +273,7 @@ module _ {left m right k : ℕ} {ws vs : List ℕ} {n : ℕ} {a b : Front} (g : 
     in-right = omega (arith, rights)
 
     -- there is room for it, and what is there is in order
-    pub room-for-one : (12288 + n * 3 + 3 ≤ length vs) × (rising (take n (drop 4096 (tableOf vs))) ≡ true)
+    pub room-for-one : (20480 + n * 5 + 5 ≤ length vs) × (rising (take n (drop 4096 (tableOf vs))) ≡ true)
     room-for-one = (omega (arith, g .long, lefts, rights, few-yet (g .so-far) in-left in-right), g .so-far .rises)
 
     -- the words vs′ afterwards, with the pair's state s added in the scratch
@@ -281,10 +281,10 @@ module _ {left m right k : ℕ} {ws vs : List ℕ} {n : ℕ} {a b : Front} (g : 
         (added : InScratch (add (s ∷ []) (take n (drop 4096 (tableOf vs)))) n′ (tableOf vs) (tableOf vs′))
         (u : ℕ) (e : u ≡ min (unitsOf (a .state)) (unitsOf (b .state))) where
       -- the tables still stand there, and no more units are used than are left
-      pub left-stays : ((left + m) * 3 ≤ length vs′) × (a .at < m) × (u ≤ unitsOf (a .state))
+      pub left-stays : ((left + m) * 5 ≤ length vs′) × (a .at < m) × (u ≤ unitsOf (a .state))
       left-stays = (omega (arith, g .long, same), l, omega arith)
 
-      pub right-stays : ((right + k) * 3 ≤ length vs′) × (b .at < k) × (u ≤ unitsOf (b .state))
+      pub right-stays : ((right + k) * 5 ≤ length vs′) × (b .at < k) × (u ≤ unitsOf (b .state))
       right-stays = (omega (arith, g .long, same), r, omega arith)
 
       module _ (a′ b′ : Front) (is-left : a′ ≡ frontAfter (statesAt left m vs′) u a) (is-right : b′ ≡ frontAfter (statesAt right k vs′) u b) where

@@ -7,7 +7,7 @@ use native.Mathlib.Omega.{arith}
 use lib.ListN.{length, take, drop, length-drop, drop-of-length-le}
 use lib.Seq.{take-all, take-at, take-take, drop-at, getD-take, getD-drop, length-take-le}
 use Rattle.rules.specs.declared.State.{State}
-use Rattle.rules.specs.Table.{state, rising, add, stateAt}
+use Rattle.rules.specs.Table.{rising, add, noState, stateAt}
 use Rattle.words.specs.Tables.{tableOf}
 use Rattle.estimate.specs.Placing.{Added}
 use Rattle.estimate.specs.Rooms.{InScratch}
@@ -38,34 +38,34 @@ abbrev pub backFrom : ℕ → List ℕ → List ℕ → List ℕ
 backFrom from ws ys = take from ws ++ (ys ++ drop (length ws - from) (drop from ws))
 
 module _ (ws : List ℕ) (base : ℕ) where
-  part-all : partFrom (base * 3) ws ≡ drop (base * 3) ws
-  part-all = take-all (length ws - base * 3) (drop (base * 3) ws) (omega (arith, length-drop (base * 3) ws))
+  part-all : partFrom (base * 5) ws ≡ drop (base * 5) ws
+  part-all = take-all (length ws - base * 5) (drop (base * 5) ws) (omega (arith, length-drop (base * 5) ws))
 
-  pub part-table : tableOf (partFrom (base * 3) ws) ≡ drop base (tableOf ws)
+  pub part-table : tableOf (partFrom (base * 5) ws) ≡ drop base (tableOf ws)
   part-table = ap tableOf part-all ∙ table-drop ws base
 
-  pub part-long : length (partFrom (base * 3) ws) ≡ length ws - base * 3
-  part-long = ap length part-all ∙ length-drop (base * 3) ws
+  pub part-long : length (partFrom (base * 5) ws) ≡ length ws - base * 5
+  part-long = ap length part-all ∙ length-drop (base * 5) ws
 
-  module _ (ys : List ℕ) (l : base * 3 ≤ length ws) where
-    back-all : backFrom (base * 3) ws ys ≡ take (base * 3) ws ++ ys
-    back-all = rw (drop-of-length-le (drop (base * 3) ws) {i = length ws - base * 3} (omega (arith, length-drop (base * 3) ws)), append-nil)
+  module _ (ys : List ℕ) (l : base * 5 ≤ length ws) where
+    back-all : backFrom (base * 5) ws ys ≡ take (base * 5) ws ++ ys
+    back-all = rw (drop-of-length-le (drop (base * 5) ws) {i = length ws - base * 5} (omega (arith, length-drop (base * 5) ws)), append-nil)
 
-    back-table : tableOf (backFrom (base * 3) ws ys) ≡ take base (tableOf ws) ++ tableOf ys
+    back-table : tableOf (backFrom (base * 5) ws ys) ≡ take base (tableOf ws) ++ tableOf ys
     back-table =
-        ap tableOf back-all ∙ table-append (take (base * 3) ws) ys base (length-take-le (base * 3) ws l) ∙ ap (_++ tableOf ys) (table-take ws base)
+        ap tableOf back-all ∙ table-append (take (base * 5) ws) ys base (length-take-le (base * 5) ws l) ∙ ap (_++ tableOf ys) (table-take ws base)
 
-    pub back-slots : take base (tableOf (backFrom (base * 3) ws ys)) ≡ take base (tableOf ws)
+    pub back-slots : take base (tableOf (backFrom (base * 5) ws ys)) ≡ take base (tableOf ws)
     back-slots = ap (take base) back-table ∙ take-at (take base (tableOf ws)) (tableOf ys) base (length-take-le base (tableOf ws) (fits-table ws base l))
 
-    pub back-scratch : drop base (tableOf (backFrom (base * 3) ws ys)) ≡ tableOf ys
+    pub back-scratch : drop base (tableOf (backFrom (base * 5) ws ys)) ≡ tableOf ys
     back-scratch = ap (drop base) back-table ∙ drop-at (take base (tableOf ws)) (tableOf ys) base (length-take-le base (tableOf ws) (fits-table ws base l))
 
 -- ---- what the scratch holds
 
 -- what is added to the lent part is added to what the scratch holds
-pub lent-added : (S : List State) (n r : ℕ) (ws ys : List ℕ) → 12288 ≤ length ws → Added S n r (tableOf (partFrom 12288 ws)) (tableOf ys)
-    → InScratch (add S (take n (drop 4096 (tableOf ws)))) r (tableOf ws) (tableOf (backFrom 12288 ws ys))
+pub lent-added : (S : List State) (n r : ℕ) (ws ys : List ℕ) → 20480 ≤ length ws → Added S n r (tableOf (partFrom 20480 ws)) (tableOf ys)
+    → InScratch (add S (take n (drop 4096 (tableOf ws)))) r (tableOf ws) (tableOf (backFrom 20480 ws ys))
 lent-added S n r ws ys l a =
     record {
       count = a .count ∙ ap length is;
@@ -73,7 +73,7 @@ lent-added S n r ws ys l a =
       slots = back-slots ws 4096 ys l;
     }
   where
-    is : add S (take n (tableOf (partFrom 12288 ws))) ≡ add S (take n (drop 4096 (tableOf ws)))
+    is : add S (take n (tableOf (partFrom 20480 ws))) ≡ add S (take n (drop 4096 (tableOf ws)))
     is = ap (λ (T : List State). add S (take n T)) (part-table ws 4096)
 
 pub scratch-empty : (T : List State) → InScratch [] 0 T T
@@ -93,6 +93,6 @@ module _ (X : List State) (n : ℕ) (T₀ T : List State) (g : InScratch X n T�
   -- the slots read as they did: the state at place i of the m states at place `from`
   pub slot-reads : (from m i : ℕ) (s : State) → i < m → from + m ≤ 4096 → s ≡ stateAt T (from + i) → s ≡ stateAt (take m (drop from T₀)) i
   slot-reads from m i s l h e =
-      e ∙ sym (getD-take 4096 T (from + i) (state 0 0 0) (omega arith)) ∙ ap (λ (U : List State). stateAt U (from + i)) (g .slots)
-      ∙ getD-take 4096 T₀ (from + i) (state 0 0 0) (omega arith)
-      ∙ sym (getD-take m (drop from T₀) i (state 0 0 0) l ∙ getD-drop from T₀ i (state 0 0 0))
+      e ∙ sym (getD-take 4096 T (from + i) noState (omega arith)) ∙ ap (λ (U : List State). stateAt U (from + i)) (g .slots)
+      ∙ getD-take 4096 T₀ (from + i) noState (omega arith)
+      ∙ sym (getD-take m (drop from T₀) i noState l ∙ getD-drop from T₀ i noState)

@@ -12,9 +12,10 @@ use Rattle.rules.specs.declared.Last.the-variants.{Block as block}
 use Rattle.rules.specs.declared.Target.{Target}
 use Rattle.rules.specs.declared.State.{State}
 use Rattle.rules.specs.Units.{whole, more}
-use Rattle.rules.specs.Contents.{targetOf}
+use Rattle.rules.specs.Contents.{among, targetOf}
+use Rattle.rules.specs.Refusals.{setCounts}
 use Rattle.rules.specs.Table.{rising, total, unitsOf, Work}
-use Rattle.rules.specs.Shape.{Every, Listed, Aimed, Shaped, Table}
+use Rattle.rules.specs.Shape.{Every, Aimed, Shaped, Table}
 use Rattle.rules.specs.Step.{access, accessAside}
 use Rattle.rules.specs.Fold.{folded}
 use Rattle.rules.specs.Join.{join}
@@ -22,10 +23,11 @@ use Rattle.rules.specs.Run.{advance, run}
 use Rattle.rules.proofs.Table.{rising-is}
 use Rattle.rules.proofs.Join.{rising-join, length-join}
 use Rattle.rules.proofs.Run.{rising-access, access-length, table-advance, table-wider, advance-aside}
+use Rattle.rules.proofs.Refusals.{counts-some, counts-few}
 use Rattle.rules.proofs.Sets.{aimed, room-risk}
 use Rattle.words.specs.Tables.{tableOf}
 use Rattle.estimate.specs.Rooms.{InScratch, Stands, InPlace}
-use Rattle.estimate.specs.Following.{Workable}
+use Rattle.estimate.specs.Following.{Placed, Workable}
 use Rattle.estimate.specs.Working.{workAt, InRange, Ready}
 use Rattle.words.proofs.Tables.{fits-table}
 use Rattle.estimate.proofs.Scratch.{stretch-kept, stretch-long}
@@ -56,28 +58,28 @@ unfolding total
 unit-most [] n h = tt
 unit-most (s ∷ T) n h = (omega arith, unit-most T n (omega arith))
 
-module _ (N Z : ℕ) (ts : List ℕ) (x : Target) (aim : Aimed Z ts x) where
+module _ (N Z : ℕ) (ts : List ℕ) (few : N ≤ 16) (x : Target) (aim : Aimed Z ts x) where
   workables : (M : ℕ) (T : List State) → M ≤ 4095 → Every (Shaped N Z ts M) T → Every (λ s. unitsOf s ≤ whole) T → Every (Workable N x) T
   workables M [] l h u = tt
   workables M (s ∷ T) l h u =
-      ((omega (arith, h .0 .0 .few), u .0, room-risk N Z ts x aim (s .mask) (h .0 .0 .small)), workables M T l (h .1) (u .1))
+      ((omega (arith, h .0 .0 .few), u .0, room-risk N Z ts few x aim (s .mask) (s .filled) (h .0 .0 .small)), workables M T l (h .1) (u .1))
 
   pub workable : (K M : ℕ) (T : List State) → M ≤ 4095 → Table N Z ts K M T → Every (Workable N x) T
   workable K M T l t = workables M T l (t .shaped) (unit-most T whole (rw (t .full) (omega arith)))
 
-  pub listed-sixteen : length ts ≤ 16 → Listed 16 (x .place)
-  listed-sixteen few i p = omega (arith, few, aim .placed i p)
+  pub placed : length ts ≤ 16 → Placed x
+  placed short = (λ i p. omega (arith, short, aim .placed i p), aim .near)
 
 -- what is found out about a block is what an access to it is after
-pub aimed-so : (Z : ℕ) (ts : List ℕ) (l : Last) (b : ℕ) (x : Target) → x ≡ targetOf Z ts l b → Aimed Z ts x
-aimed-so Z ts l b x e = rw e (aimed Z ts l b)
+pub aimed-so : (Z : ℕ) (ts : List ℕ) → among setCounts Z ≡ true → (l : Last) (b : ℕ) (x : Target) → x ≡ targetOf Z ts l b → Aimed Z ts x
+aimed-so Z ts known l b x e = rw e (aimed Z ts (counts-some Z known) (counts-few Z known) l b)
 
 -- what is gathered can be settled
 pub gathered-fits : (c : Cache) (ts : List ℕ) (K M : ℕ) (x : Target) (T : List State) (r : ℕ) (T₀ T₁ : List State) → InRange c ts K → Aimed (c .sets) ts x
     → Table (c .ways) (c .sets) ts K M T → InScratch (access (c .ways) x T) r T₀ T₁ → (r ≤ 1088) × (rising (take r (drop 4096 T₁)) ≡ true)
 gathered-fits c ts K M x T r T₀ T₁ ranges aim t g = (
   omega (arith, g .count, access-length (c .ways) (c .sets) ts K M x T (ranges .few-ways) aim t, ranges .few-states),
-  rw (g .table) (rising-is (access (c .ways) x T) (rising-access (c .ways) (c .sets) ts K (ranges .some-ways) (ranges .some-states) x T)),
+  rw (g .table) (rising-is (access (c .ways) x T) (rising-access (c .ways) (c .sets) ts K (ranges .some-ways) (ranges .few-ways) (ranges .some-states) x T)),
 )
 
 pub joined-fits : (S T : List State) (r : ℕ) (T₀ T₁ : List State) → length S ≤ 64 → length T ≤ 64
@@ -130,14 +132,15 @@ ready-next c ts K L M at n a n′ a′ k b ws ws′ l e r g =
       room = rw e (r .room);
       slot = r .slot;
       count = omega (arith, g .stands .count, t .short, r .ranges .few-states);
-      aside = rw (g .stands .aside) (advance-aside (c .ways) (c .sets) ts K (r .ranges .some-ways) (r .ranges .some-states) (targetOf (c .sets) ts k b) (workAt at n a ws));
+      aside = rw (g .stands .aside) (advance-aside (c .ways) K (targetOf (c .sets) ts k b) (workAt at n a ws));
       table = rw (g .stands .table) t;
     }
   where
     t : Table (c .ways) (c .sets) ts K M (advance (c .ways) K (targetOf (c .sets) ts k b) (workAt at n a ws) .table)
     t =
         table-wider (c .ways) (c .sets) ts K (suc L) M _ l
-        (table-advance (c .ways) (c .sets) ts K (r .ranges .some-ways) (r .ranges .some-states) L (targetOf (c .sets) ts k b) (workAt at n a ws) (aimed (c .sets) ts k b)
+        (table-advance (c .ways) (c .sets) ts K (r .ranges .some-ways) (r .ranges .few-ways) (r .ranges .some-states) L (targetOf (c .sets) ts k b) (workAt at n a ws)
+        (aimed-so (c .sets) ts (r .ranges .known-sets) k b _ refl)
         (r .table))
 
 -- when no access is to come, the table stands where it is to

@@ -18,18 +18,18 @@ pub record After : Type 0 where
   pub result : List ℕ
   pub work : List ℕ
 
--- the table T in a room of n words: three words a state, then zeros
+-- the table T in a room of n words: five words a state, then zeros
 abbrev pub written : List State → ℕ → List ℕ
-written T n = wordsOf T ++ replicate (n - length T * 3) 0
+written T n = wordsOf T ++ replicate (n - length T * 5) 0
 
 -- an accepted call leaves the finished table in the result room, and zeros in the working room; a refused one leaves both as they were
 abbrev pub leaves : Verdict → Input → List ℕ → List ℕ → After
 leaves Accepted i result work = record { answer = outcome i; result = written (finished i .table) (length result); work = replicate (length work) 0 }
 leaves (Refused r) i result work = record { answer = outcome i; result = result; work = work }
 
--- what comes in, of two rooms with three words to a state
+-- what comes in, of two rooms with five words to a state
 abbrev pub handed : Cache → ℕ → List ℕ → List ℕ → List ℕ → List ℕ → List ℕ → List ℕ → Input
-handed c K ts ns bs es result work = inputIn c K ts ns bs es (length result / 3) (length work / 3)
+handed c K ts ns bs es result work = inputIn c K ts ns bs es (length result / 5) (length work / 5)
 
 -- the cache c, at most K states, the tracked blocks ts, the run lengths ns, the accesses bs, the edges es, and the two rooms
 unfoldable pub analysed : Cache → ℕ → List ℕ → List ℕ → List ℕ → List ℕ → List ℕ → List ℕ → After

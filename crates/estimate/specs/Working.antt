@@ -1,12 +1,15 @@
 -- What is asked of the working room before a table in it is worked.
 use mathlib.Core.Path.{_≡_}
-use mathlib.Core.Bool.{true}
-use mathlib.Core.List.{List}
-use Prim.Native.Nat.{ℕ, _+_, _≤_, _<_}
-use lib.ListN.{length, take, drop}
+use mathlib.Core.Bool.{Bool, true, cond}
+use mathlib.Core.List.{List, _++_}
+use Prim.Native.Nat.{ℕ, _+_, _-_, _≤_, _<_}
+use lib.Dec.{eqb}
+use lib.ListN.{length, take, drop, replicate}
 use Rattle.rules.specs.declared.Cache.{Cache}
+use Rattle.rules.specs.declared.Filled.{Filled}
 use Rattle.rules.specs.Units.{whole}
 use Rattle.rules.specs.Contents.{among}
+use Rattle.rules.specs.Filling.{evenly}
 use Rattle.rules.specs.Table.{Work}
 use Rattle.rules.specs.Shape.{Every, Table}
 use Rattle.rules.specs.Input.{edgesOf, predecessors}
@@ -17,6 +20,18 @@ use Rattle.estimate.specs.Rooms.{tableIn}
 -- the table of n states at place p, with the set-aside count a
 abbrev pub workAt : ℕ → ℕ → ℕ → List ℕ → Work
 workAt p n a ws = record { table = take n (drop p (tableOf ws)); aside = a }
+
+-- n for each of Z sets, and 0 for those beyond, of sixteen
+abbrev pub sixteenOf : ℕ → ℕ → List ℕ
+sixteenOf Z n = replicate Z n ++ replicate (16 - length (replicate Z n)) 0
+
+-- the cache is found empty, and fills empty ways first
+abbrev pub startsEmptyOf : Cache → Bool
+startsEmptyOf c = eqb (c .revision) 2
+
+-- how many ways may be filled at the start
+abbrev pub startOf : Cache → Filled
+startOf c = evenly (c .sets) (cond (startsEmptyOf c) 0 (c .ways))
 
 -- the cache, the tracked blocks and at most K states are in their ranges
 pub record InRange (c : Cache) (ts : List ℕ) (K : ℕ) : Type 0 where
@@ -30,7 +45,7 @@ pub record InRange (c : Cache) (ts : List ℕ) (K : ℕ) : Type 0 where
 -- there is room, and the table of n states at place p, with the set-aside count a, is one of at most M misses
 pub record Ready (c : Cache) (ts : List ℕ) (K M p n a : ℕ) (ws : List ℕ) : Type 0 where
   pub ranges : InRange c ts K
-  pub room : 15552 ≤ length ws
+  pub room : 25920 ≤ length ws
   pub slot : p + 64 ≤ 4096
   pub count : n ≤ 64
   pub aside : a ≤ whole
@@ -39,7 +54,7 @@ pub record Ready (c : Cache) (ts : List ℕ) (K M p n a : ℕ) (ws : List ℕ) :
 -- node j can be worked: its predecessors are lower, and the tables of the nodes before it are tables of at most M misses
 pub record Startable (c : Cache) (ts : List ℕ) (K M j a : ℕ) (es ws : List ℕ) : Type 0 where
   pub ranges : InRange c ts K
-  pub room : 15552 ≤ length ws
+  pub room : 25920 ≤ length ws
   pub node : j < 64
   pub aside : a ≤ whole
   pub lower : Every (λ p. p < j) (predecessors (edgesOf es) j)

@@ -1,10 +1,11 @@
 // One access: the states that follow those of a table.
-use crate::contents::at_risk;
 use crate::contents::has_block;
 use crate::contents::has_place;
 use crate::contents::size_of;
 use crate::contents::with_block;
 use crate::contents::without_place;
+use crate::filled::fill_one;
+use crate::filled::number_of;
 use crate::memory::load;
 use crate::placing::add;
 use crate::states::Tally;
@@ -19,22 +20,59 @@ ghost use lib.ListN.{length, take, drop};
 ghost use Rattle.rules.specs.Units.{whole, more};
 ghost use Rattle.rules.specs.Contents.{without, held};
 ghost use Rattle.rules.specs.Table.{rising, add as addOf};
-ghost use Rattle.rules.specs.Step.{missed as missedOf, restOf, miss as missOf, successors, leftOver, access, accessAside};
+ghost use Rattle.rules.specs.Step.{atRisk, restOf, miss as missOf, successors, leftOver, access, accessAside};
 ghost use Rattle.rules.specs.Shape.{Every, Listed};
 ghost use Rattle.words.specs.Tables.{tableOf};
 ghost use Rattle.estimate.specs.Placing.{Added};
 ghost use Rattle.estimate.specs.Rooms.{InScratch};
-ghost use Rattle.estimate.specs.Following.{lostAt, Workable};
+ghost use Rattle.estimate.specs.Following.{fuller as fullerOf, missedFrom, lostAt, Placed, Workable};
 
-// From `s`, one miss more: `mask` with the accessed block, and `units`.
+// The blocks of `s` that a miss can evict: those of its own set, once every way of the set may be filled.
+pub(crate) fn at_risk(s: State, x: Target, ways: u64) -> u64
+    requires { ⌜ x .set < 16 ⌝ }
+    ensures { λ r. ⌜ r ≡ atRisk ways x (s .filled) (s .mask) ⌝ }
+{
+    if number_of(s.filled, x.set) < ways {
+        return 0;
+    }
+    s.mask & x.mates
+}
+
+// `s` with one more way of the accessed set that may be filled.
+pub(crate) fn fuller(s: State, x: Target, ways: u64) -> State
+    requires { ⌜ (ways ≤ 16) × (x .set < 16) ⌝ }
+    ensures { λ r. ⌜ r ≡ fullerOf ways x s ⌝ }
+{
+    let units = s.units;
+    State {
+        mask: s.mask,
+        misses: s.misses,
+        filled: fill_one(ways, x.set, s.filled),
+        units,
+    }
+}
+
+// What the units that are left over keep of `mask`: nothing where a block of `risk` can be lost, or all.
+pub(crate) fn rest_of(mask: u64, risk: u64) -> u64
+    ensures { λ r. ⌜ r ≡ restOf mask risk ⌝ }
+{
+    if risk == 0 {
+        return mask;
+    }
+    0
+}
+
+// From `s`, whose filled numbers are those after it, one miss more: `mask` with the accessed block, and `units`.
 pub(crate) fn missed(s: State, x: Target, mask: u64, units: Units) -> State
     requires { ⌜ Listed 16 (x .place) × (s .misses ≤ 4095) ⌝ }
-    ensures { λ r. ⌜ r ≡ missedOf x s mask (units .0) ⌝ }
+    ensures { λ r. ⌜ r ≡ missedFrom x s mask (units .0) ⌝ }
 {
     let place = x.place;
+    let filled = s.filled;
     State {
         mask: with_block(mask, place),
         misses: s.misses + 1,
+        filled,
         units,
     }
 }
@@ -49,7 +87,7 @@ pub(crate) fn lose_one(
     part: Units,
     at: usize,
 ) -> usize
-    requires { ⌜ Listed 16 (x .place) × (s .misses ≤ 4095) × (at < 16) × (n * 3 + 3 ≤ length (now words)) × (rising (take n (tableOf (now words))) ≡ true) ⌝ }
+    requires { ⌜ Listed 16 (x .place) × (s .misses ≤ 4095) × (at < 16) × (n * 5 + 5 ≤ length (now words)) × (rising (take n (tableOf (now words))) ≡ true) ⌝ }
     ensures { λ r. ⌜ Added (lostAt x s risk (part .0) at) n r (tableOf (now (words .entry))) (tableOf (now (words .exit))) ⌝ }
 {
     if has_place(risk, at) {
@@ -67,8 +105,8 @@ pub(crate) fn lose_each(
     risk: u64,
     part: Units,
 ) -> usize
-    requires { ⌜ Listed 16 (x .place) × (s .misses ≤ 4095) × ((n + 16) * 3 ≤ length (now words)) × (rising (take n (tableOf (now words))) ≡ true) ⌝ }
-    ensures { λ r. ⌜ Added (map (λ e. missedOf x s (without (s .mask) e) (part .0)) (held risk)) n r (tableOf (now (words .entry))) (tableOf (now (words .exit))) ⌝ }
+    requires { ⌜ Listed 16 (x .place) × (s .misses ≤ 4095) × ((n + 16) * 5 ≤ length (now words)) × (rising (take n (tableOf (now words))) ≡ true) ⌝ }
+    ensures { λ r. ⌜ Added (map (λ e. missedFrom x s (without (s .mask) e) (part .0)) (held risk)) n r (tableOf (now (words .entry))) (tableOf (now (words .exit))) ⌝ }
 {
     let mut m = n;
     let mut at: usize = 0;
@@ -79,36 +117,27 @@ pub(crate) fn lose_each(
     m
 }
 
-// What the units that are left over keep of `mask`: nothing where a block of `risk` can be lost, and all of it where none can.
-pub(crate) fn rest_of(mask: u64, risk: u64) -> u64
-    ensures { λ r. ⌜ r ≡ restOf mask risk ⌝ }
-{
-    if risk == 0 {
-        return mask;
-    }
-    0
-}
-
-// `s` does not hold the block: each way of its set has an equal part of the units, and what is left over goes to the block alone, or with
-// the others where no block can be lost.
+// `s` does not hold the block: each way of its set has an equal part of the units, and what is left over goes to the block alone, or where
+// no block can be lost with the others.
 pub(crate) fn miss(words: &mut [u64], n: usize, s: State, x: Target, ways: u64) -> usize
-    requires { ⌜ Listed 16 (x .place) × Workable ways x s × (ways ≤ 16) × ((n + 17) * 3 ≤ length (now words)) × (rising (take n (tableOf (now words))) ≡ true) ⌝ }
+    requires { ⌜ Placed x × Workable ways x s × (ways ≤ 16) × ((n + 17) * 5 ≤ length (now words)) × (rising (take n (tableOf (now words))) ≡ true) ⌝ }
     ensures { λ r. ⌜ Added (missOf ways x s) n r (tableOf (now (words .entry))) (tableOf (now (words .exit))) ⌝ }
 {
     let u = s.units;
     let share = u.split(ways);
     let part = share.part;
     let rest = share.rest;
-    let risk = at_risk(s.mask, x);
-    let lost = lose_each(words, n, s, x, risk, part);
+    let risk = at_risk(s, x, ways);
+    let t = fuller(s, x, ways);
+    let lost = lose_each(words, n, t, x, risk, part);
     let others = Units((ways - size_of(risk)) * part.0);
-    let kept = add(words, lost, missed(s, x, s.mask, others));
-    add(words, kept, missed(s, x, rest_of(s.mask, risk), rest))
+    let kept = add(words, lost, missed(t, x, s.mask, others));
+    add(words, kept, missed(t, x, rest_of(s.mask, risk), rest))
 }
 
 // The states that follow `s`: a hit leaves it as it is.
 pub(crate) fn follow(words: &mut [u64], n: usize, s: State, x: Target, ways: u64) -> usize
-    requires { ⌜ Listed 16 (x .place) × Workable ways x s × (ways ≤ 16) × ((n + 17) * 3 ≤ length (now words)) × (rising (take n (tableOf (now words))) ≡ true) ⌝ }
+    requires { ⌜ Placed x × Workable ways x s × (ways ≤ 16) × ((n + 17) * 5 ≤ length (now words)) × (rising (take n (tableOf (now words))) ≡ true) ⌝ }
     ensures { λ r. ⌜ Added (successors ways x s) n r (tableOf (now (words .entry))) (tableOf (now (words .exit))) ⌝ }
 {
     let place = x.place;
@@ -120,22 +149,22 @@ pub(crate) fn follow(words: &mut [u64], n: usize, s: State, x: Target, ways: u64
 
 // The states that follow `s` added to the first `n` states of the scratch; how many states it then has.
 pub(crate) fn follow_to_scratch(work: &mut [u64], n: usize, s: State, x: Target, ways: u64) -> usize
-    requires { ⌜ Listed 16 (x .place) × Workable ways x s × (ways ≤ 16) × (12288 + (n + 17) * 3 ≤ length (now work)) × (rising (take n (drop 4096 (tableOf (now work)))) ≡ true) ⌝ }
+    requires { ⌜ Placed x × Workable ways x s × (ways ≤ 16) × (20480 + (n + 17) * 5 ≤ length (now work)) × (rising (take n (drop 4096 (tableOf (now work)))) ≡ true) ⌝ }
     ensures { λ r. ⌜ InScratch (addOf (successors ways x s) (take n (drop 4096 (tableOf (now (work .entry)))))) r (tableOf (now (work .entry))) (tableOf (now (work .exit))) ⌝ }
 {
-    follow(&mut work[12288..], n, s, x, ways)
+    follow(&mut work[20480..], n, s, x, ways)
 }
 
-// What of `s` is set aside: nothing at a hit, and nothing where no block can be lost.
+// What of `s` is set aside.
 pub(crate) fn left_over(s: State, x: Target, ways: u64) -> Units
-    requires { ⌜ Listed 16 (x .place) ⌝ }
+    requires { ⌜ Placed x ⌝ }
     ensures { λ r. ⌜ r .0 ≡ leftOver ways x s ⌝ }
 {
     let place = x.place;
     if has_block(s.mask, x.again, place) {
         return Units(0);
     }
-    if at_risk(s.mask, x) == 0 {
+    if at_risk(s, x, ways) == 0 {
         return Units(0);
     }
     let u = s.units;
@@ -151,7 +180,7 @@ pub(crate) fn gather(
     ways: u64,
     aside: Units,
 ) -> Tally
-    requires { ⌜ Listed 16 (x .place) × (ways ≤ 16) × (m ≤ 64) × (from + m ≤ 4096) × (15552 ≤ length (now work)) × (aside .0 ≤ whole) × Every (Workable ways x) (take m (drop from (tableOf (now work)))) ⌝ }
+    requires { ⌜ Placed x × (ways ≤ 16) × (m ≤ 64) × (from + m ≤ 4096) × (25920 ≤ length (now work)) × (aside .0 ≤ whole) × Every (Workable ways x) (take m (drop from (tableOf (now work)))) ⌝ }
     ensures { λ r. ⌜ InScratch (access ways x (take m (drop from (tableOf (now (work .entry)))))) (r .states) (tableOf (now (work .entry))) (tableOf (now (work .exit))) ⌝ }
     ensures { λ r. ⌜ r .aside .0 ≡ more (aside .0) (accessAside ways x (take m (drop from (tableOf (now (work .entry)))))) ⌝ }
 {

@@ -9,7 +9,7 @@ ghost use Prim.Native.Nat.{_≤_, _<_, _%_};
 ghost use lib.Dec.{eqb};
 ghost use lib.ListN.{length};
 ghost use Rattle.rules.specs.declared.Place.the-variants.{At};
-ghost use Rattle.rules.specs.Contents.{among, bit, find, has, size, with, without, ofSet, targetOf, atRisk};
+ghost use Rattle.rules.specs.Contents.{among, bit, find, has, size, with, without, ofSet, targetOf};
 ghost use Rattle.rules.specs.Refusals.{setCounts};
 ghost use Rattle.rules.specs.Shape.{Listed};
 
@@ -117,11 +117,4 @@ pub(crate) fn aim(tracked: &[u32], sets: u32, last: Last, block: u32) -> Target
         set,
         mates: mates_of(tracked, sets, set),
     }
-}
-
-// The blocks held that a miss can evict.
-pub(crate) fn at_risk(mask: u64, x: Target) -> u64
-    ensures { λ r. ⌜ r ≡ atRisk x mask ⌝ }
-{
-    mask & x.mates
 }

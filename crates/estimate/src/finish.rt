@@ -23,14 +23,14 @@ pub(crate) fn carry(result: &mut [u64], work: &[u64], from: usize, n: usize)
 
 // The table in slot `last` goes to the result, with zeros behind it; the working room is all zeros; how many states there are.
 pub(crate) fn hand_over(result: &mut [u64], work: &mut [u64], last: usize) -> usize
-    requires { ⌜ (last < 64) × (15552 ≤ length (now work)) × (length (tableIn last (tableOf (now work))) * 3 ≤ length (now result)) ⌝ }
+    requires { ⌜ (last < 64) × (25920 ≤ length (now work)) × (length (tableIn last (tableOf (now work))) * 5 ≤ length (now result)) ⌝ }
     ensures { λ r. ⌜ r ≡ length (tableIn last (tableOf (now (work .entry)))) ⌝ }
     ensures { λ _. ⌜ now (result .exit) ≡ written (tableIn last (tableOf (now (work .entry)))) (length (now (result .entry))) ⌝ }
     ensures { λ _. ⌜ now (work .exit) ≡ replicate (length (now (work .entry))) 0 ⌝ }
 {
     let n = count(work, last * 64);
     clear(result);
-    carry(result, work, last * 64 * 3, n * 3);
+    carry(result, work, last * 64 * 5, n * 5);
     clear(work);
     n
 }

@@ -3,6 +3,7 @@ use crate::contents::size_of;
 use crate::memory::load;
 use crate::memory::store;
 use crate::placing::add;
+use crate::placing::is_same;
 use crate::states::Tally;
 use crate::states::meet;
 use rules::Pair;
@@ -65,7 +66,7 @@ pub(crate) fn place_past(out: usize, at: usize) -> usize
 // The state of fewest units among `n`, and its partner among the others. Of the best partner so far it keeps how many blocks that
 // one shares, `most`, and how far away in misses it is, `near`.
 pub(crate) fn choose(words: &[u64], n: usize) -> Pair
-    requires { ⌜ (2 ≤ n) × (n * 3 ≤ length (now words)) ⌝ }
+    requires { ⌜ (2 ≤ n) × (n * 5 ≤ length (now words)) ⌝ }
     ensures { λ r. ⌜ r ≡ choice (take n (tableOf (now (words .entry)))) ⌝ }
 {
     let mut fewest: usize = 0;
@@ -105,7 +106,7 @@ pub(crate) fn choose(words: &[u64], n: usize) -> Pair
 
 // The first `n` states without the one at place `at`.
 pub(crate) fn take_out(words: &mut [u64], n: usize, at: usize)
-    requires { ⌜ (at < n) × (n * 3 ≤ length (now words)) ⌝ }
+    requires { ⌜ (at < n) × (n * 5 ≤ length (now words)) ⌝ }
     ensures { λ _. ⌜ take (n - 1) (tableOf (now (words .exit))) ≡ remove at (take n (tableOf (now (words .entry)))) ⌝ }
 {
     let mut j = at;
@@ -118,7 +119,7 @@ pub(crate) fn take_out(words: &mut [u64], n: usize, at: usize)
 
 // Takes the state at place `at` out of the first `n` states.
 pub(crate) fn pull(words: &mut [u64], n: usize, at: usize) -> State
-    requires { ⌜ (at < n) × (n * 3 ≤ length (now words)) ⌝ }
+    requires { ⌜ (at < n) × (n * 5 ≤ length (now words)) ⌝ }
     ensures state { λ r. ⌜ r ≡ stateAt (tableOf (now (words .entry))) at ⌝ }
     ensures table { λ _. ⌜ take (n - 1) (tableOf (now (words .exit))) ≡ remove at (take n (tableOf (now (words .entry)))) ⌝ }
 {
@@ -127,14 +128,12 @@ pub(crate) fn pull(words: &mut [u64], n: usize, at: usize) -> State
     s
 }
 
-// The units of `s`, where its mask or misses are not those of `m`.
+// The units of `s`, where its mask, misses or filled numbers are not those of `m`.
 pub(crate) fn changed(s: State, m: State) -> Units
     ensures { λ r. ⌜ r .0 ≡ changedOf s m ⌝ }
 {
-    if s.mask == m.mask {
-        if s.misses == m.misses {
-            return Units(0);
-        }
+    if is_same(s, m) {
+        return Units(0);
     }
     s.units
 }
@@ -149,7 +148,7 @@ pub(crate) fn set_aside(aside: Units, s: State, t: State, m: State) -> Units
 
 // One fold of the first `n` states.
 pub(crate) fn fold_once(words: &mut [u64], n: usize, aside: Units) -> Tally
-    requires { ⌜ (2 ≤ n) × (n * 3 ≤ length (now words)) × (rising (take n (tableOf (now words))) ≡ true) ⌝ }
+    requires { ⌜ (2 ≤ n) × (n * 5 ≤ length (now words)) × (rising (take n (tableOf (now words))) ≡ true) ⌝ }
     ensures { λ r. ⌜ Stands (fold (record { table = take n (tableOf (now (words .entry))); aside = aside .0 })) (r .states) (r .aside .0) (tableOf (now (words .exit))) ⌝ }
 {
     let pair = choose(words, n);
@@ -168,7 +167,7 @@ pub(crate) fn fold_once(words: &mut [u64], n: usize, aside: Units) -> Tally
 
 // Folds while more than `limit` states remain.
 pub(crate) fn fold_down(words: &mut [u64], n: usize, limit: usize, aside: Units) -> Tally
-    requires { ⌜ (1 ≤ limit) × (n * 3 ≤ length (now words)) × (rising (take n (tableOf (now words))) ≡ true) ⌝ }
+    requires { ⌜ (1 ≤ limit) × (n * 5 ≤ length (now words)) × (rising (take n (tableOf (now words))) ≡ true) ⌝ }
     ensures { λ r. ⌜ Stands (folded limit (record { table = take n (tableOf (now (words .entry))); aside = aside .0 })) (r .states) (r .aside .0) (tableOf (now (words .exit))) ⌝ }
 {
     let mut tally = Tally { states: n, aside };

@@ -1,4 +1,5 @@
 // Nodes one after the other, each from the joined tables of its predecessors.
+use crate::filled::start_of;
 use crate::last::last_after;
 use crate::last::last_before;
 use crate::memory::copy;
@@ -23,7 +24,7 @@ ghost use Rattle.rules.proofs.Refusals.{Checked};
 ghost use Rattle.words.specs.Tables.{tableOf};
 ghost use Rattle.estimate.specs.Rooms.{InPlace, NodeDone, workedIn};
 ghost use Rattle.estimate.specs.Edges.{cameFrom, AtEdge};
-ghost use Rattle.estimate.specs.Working.{workAt, Startable};
+ghost use Rattle.estimate.specs.Working.{workAt, startOf, Startable};
 
 // Where the next edge into node `to` stands, from place `start` of the list on; the list's end if there is none.
 pub(crate) fn next_edge(edges: &[u32], to: usize, start: usize) -> usize
@@ -49,7 +50,7 @@ pub(crate) fn join_others(
     after: usize,
     limit: usize,
 ) -> Tally
-    requires { ⌜ (15552 ≤ length (now work)) × (to < 64) × (tally .states ≤ 64) × (after ≤ length (now edges)) × (1 ≤ limit) × (limit ≤ 64) × Every (λ p. p < to) (cameFrom (now edges) to after) ⌝ }
+    requires { ⌜ (25920 ≤ length (now work)) × (to < 64) × (tally .states ≤ 64) × (after ≤ length (now edges)) × (1 ≤ limit) × (limit ≤ 64) × Every (λ p. p < to) (cameFrom (now edges) to after) ⌝ }
     ensures { λ r. ⌜ InPlace (joinAll limit (workedIn to (tally .aside .0) (tableOf (now (work .entry)))) (cameFrom (now (edges .entry)) to after) (workAt (to * 64) (tally .states) (tally .aside .0) (now (work .entry)))) (to * 64) (r .states) (r .aside .0) (tableOf (now (work .entry))) (tableOf (now (work .exit))) ⌝ }
 {
     let mut so_far = tally;
@@ -64,18 +65,27 @@ pub(crate) fn join_others(
 }
 
 // What node `to` starts from, in its slot.
-pub(crate) fn enter(work: &mut [u64], to: usize, edges: &[u32], aside: Units, limit: usize) -> Tally
-    requires { ⌜ (15552 ≤ length (now work)) × (to < 64) × (1 ≤ limit) × (limit ≤ 64) × Every (λ p. p < to) (predecessors (edgesOf (now edges)) to) ⌝ }
-    ensures { λ r. ⌜ InPlace (enterOf limit (workedIn to (aside .0) (tableOf (now (work .entry)))) (predecessors (edgesOf (now (edges .entry))) to)) (to * 64) (r .states) (r .aside .0) (tableOf (now (work .entry))) (tableOf (now (work .exit))) ⌝ }
+pub(crate) fn enter(
+    work: &mut [u64],
+    to: usize,
+    edges: &[u32],
+    aside: Units,
+    cache: Cache,
+    limit: usize,
+) -> Tally
+    requires { ⌜ (25920 ≤ length (now work)) × (to < 64) × (1 ≤ limit) × (limit ≤ 64) × Every (λ p. p < to) (predecessors (edgesOf (now edges)) to) × (cache .ways ≤ 16) × (cache .sets ≤ 16) ⌝ }
+    ensures { λ r. ⌜ InPlace (enterOf limit (startOf cache) (workedIn to (aside .0) (tableOf (now (work .entry)))) (predecessors (edgesOf (now (edges .entry))) to)) (to * 64) (r .states) (r .aside .0) (tableOf (now (work .entry))) (tableOf (now (work .exit))) ⌝ }
 {
     let e = next_edge(edges, to, 0);
     if edges.len() <= e {
+        let filled = start_of(cache);
         store(
             work,
             to * 64,
             State {
                 mask: 0,
                 misses: 0,
+                filled,
                 units: Units::WHOLE,
             },
         );
@@ -100,9 +110,9 @@ pub(crate) fn work_node(
     limit: usize,
 ) -> Units
     requires { ⌜ (length (now accesses) ≤ 4096) × Startable cache (now tracked) limit (4096 - length (now accesses)) j (aside .0) (now edges) (now work) ⌝ }
-    ensures { λ r. ⌜ NodeDone (runOver (cache .ways) (cache .sets) limit (now (tracked .entry)) last (now (accesses .entry)) (enterOf limit (workedIn j (aside .0) (tableOf (now (work .entry)))) (predecessors (edgesOf (now (edges .entry))) j))) j (r .0) (tableOf (now (work .entry))) (tableOf (now (work .exit))) ⌝ }
+    ensures { λ r. ⌜ NodeDone (runOver (cache .ways) (cache .sets) limit (now (tracked .entry)) last (now (accesses .entry)) (enterOf limit (startOf cache) (workedIn j (aside .0) (tableOf (now (work .entry)))) (predecessors (edgesOf (now (edges .entry))) j))) j (r .0) (tableOf (now (work .entry))) (tableOf (now (work .exit))) ⌝ }
 {
-    let entered = enter(work, j, edges, aside, limit);
+    let entered = enter(work, j, edges, aside, cache, limit);
     let done = run(work, j * 64, entered, last, accesses, tracked, cache, limit);
     seal(work, j * 64, done.states);
     done.aside
@@ -118,7 +128,7 @@ pub(crate) fn work_nodes(
     cache: Cache,
     limit: usize,
 ) -> Units
-    requires { ⌜ (15552 ≤ length (now work)) × Checked (inputOf cache limit (now tracked) (now runs) (now accesses) (now edges)) ⌝ }
+    requires { ⌜ (25920 ≤ length (now work)) × Checked (inputOf cache limit (now tracked) (now runs) (now accesses) (now edges)) ⌝ }
     ensures { λ r. ⌜ workedIn (length (now (runs .entry))) (r .0) (tableOf (now (work .exit))) ≡ worked (inputOf cache limit (now (tracked .entry)) (now (runs .entry)) (now (accesses .entry)) (now (edges .entry))) (length (now (runs .entry))) ⌝ }
 {
     let mut aside = Units(0);

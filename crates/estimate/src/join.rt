@@ -2,6 +2,7 @@
 use crate::memory::load;
 use crate::placing::add;
 use crate::states::meet;
+use rules::Filled;
 use rules::State;
 use rules::Units;
 ghost use mathlib.Core.Path.{_≡_};
@@ -32,7 +33,7 @@ pub(crate) fn smaller(a: Units, b: Units) -> Units
 
 // What is first from place `at` on, of the `m` states at place `from`; past them, a state of 0 units.
 pub(crate) fn front_at(words: &[u64], from: usize, m: usize, at: usize) -> Front
-    requires { ⌜ (from + m) * 3 ≤ length (now words) ⌝ }
+    requires { ⌜ (from + m) * 5 ≤ length (now words) ⌝ }
     ensures { λ r. ⌜ r ≡ frontAt (take m (drop from (tableOf (now (words .entry))))) at ⌝ }
 {
     if at < m {
@@ -46,6 +47,7 @@ pub(crate) fn front_at(words: &[u64], from: usize, m: usize, at: usize) -> Front
         state: State {
             mask: 0,
             misses: 0,
+            filled: Filled { front: 0, back: 0 },
             units: Units(0),
         },
     }
@@ -53,10 +55,11 @@ pub(crate) fn front_at(words: &[u64], from: usize, m: usize, at: usize) -> Front
 
 // What is first when `used` units of the first state are used.
 pub(crate) fn after(words: &[u64], from: usize, m: usize, front: Front, used: Units) -> Front
-    requires { ⌜ ((from + m) * 3 ≤ length (now words)) × (front .at < m) × (used .0 ≤ unitsOf (front .state)) ⌝ }
+    requires { ⌜ ((from + m) * 5 ≤ length (now words)) × (front .at < m) × (used .0 ≤ unitsOf (front .state)) ⌝ }
     ensures { λ r. ⌜ r ≡ frontAfter (take m (drop from (tableOf (now (words .entry))))) (used .0) front ⌝ }
 {
     let s = front.state;
+    let filled = s.filled;
     let u = s.units;
     let at = front.at;
     if u.0 == used.0 {
@@ -67,6 +70,7 @@ pub(crate) fn after(words: &[u64], from: usize, m: usize, front: Front, used: Un
         state: State {
             mask: s.mask,
             misses: s.misses,
+            filled,
             units: Units(u.0 - used.0),
         },
     }
@@ -74,16 +78,16 @@ pub(crate) fn after(words: &[u64], from: usize, m: usize, front: Front, used: Un
 
 // `s` added to the first `n` states of the scratch; how many states it then has.
 pub(crate) fn add_to_scratch(work: &mut [u64], n: usize, s: State) -> usize
-    requires { ⌜ (12288 + n * 3 + 3 ≤ length (now work)) × (rising (take n (drop 4096 (tableOf (now work)))) ≡ true) ⌝ }
+    requires { ⌜ (20480 + n * 5 + 5 ≤ length (now work)) × (rising (take n (drop 4096 (tableOf (now work)))) ≡ true) ⌝ }
     ensures { λ r. ⌜ InScratch (addOf (s ∷ []) (take n (drop 4096 (tableOf (now (work .entry)))))) r (tableOf (now (work .entry))) (tableOf (now (work .exit))) ⌝ }
 {
-    add(&mut work[12288..], n, s)
+    add(&mut work[20480..], n, s)
 }
 
 // The pairs of the `m` states at place `left` and the `k` states at place `right`, into the scratch, which is empty at first; how
 // many states it then has.
 pub(crate) fn pair_up(work: &mut [u64], left: usize, m: usize, right: usize, k: usize) -> usize
-    requires { ⌜ (m ≤ 64) × (k ≤ 64) × (left + m ≤ 4096) × (right + k ≤ 4096) × (15552 ≤ length (now work)) ⌝ }
+    requires { ⌜ (m ≤ 64) × (k ≤ 64) × (left + m ≤ 4096) × (right + k ≤ 4096) × (25920 ≤ length (now work)) ⌝ }
     ensures { λ r. ⌜ InScratch (join (take m (drop left (tableOf (now (work .entry))))) (take k (drop right (tableOf (now (work .entry)))))) r (tableOf (now (work .entry))) (tableOf (now (work .exit))) ⌝ }
 {
     let mut n: usize = 0;

@@ -10,6 +10,7 @@ ghost use Rattle.estimate.specs.Call.{analysed};
 
 mod access;
 mod contents;
+mod filled;
 mod finish;
 mod fold;
 mod graph;
@@ -21,7 +22,7 @@ mod run;
 mod slots;
 mod states;
 
-// The graph call: the finished table goes to `result`, three words a state, and `work` is used on the way.
+// The graph call: the finished table goes to `result`, five words a state, and `work` is used on the way.
 pub fn analyse(
     cache: Cache,
     limit: u32,
@@ -34,8 +35,8 @@ pub fn analyse(
 ) -> Outcome
     ensures { λ r. ⌜ record { answer = r; result = now (result .exit); work = now (work .exit) } ≡ analysed cache limit (now (tracked .entry)) (now (runs .entry)) (now (accesses .entry)) (now (edges .entry)) (now (result .entry)) (now (work .entry)) ⌝ }
 {
-    let result_room = result.len() / 3;
-    let working_room = work.len() / 3;
+    let result_room = result.len() / 5;
+    let working_room = work.len() / 5;
     match judge(
         cache,
         limit,

@@ -1,4 +1,5 @@
-// Tables in lent words: three words a state. One state is read and written here only; `finish` moves whole stretches.
+// Tables in lent words: five words a state. One state is read and written here only; `finish` moves whole stretches.
+use rules::Filled;
 use rules::State;
 use rules::Units;
 ghost use mathlib.Core.Path.{_≡_};
@@ -11,32 +12,39 @@ ghost use Rattle.words.specs.Tables.{tableOf};
 
 // The state at place `at` of the table.
 pub(crate) fn load(words: &[u64], at: usize) -> State
-    requires { ⌜ at * 3 + 3 ≤ length (now words) ⌝ }
+    requires { ⌜ at * 5 + 5 ≤ length (now words) ⌝ }
     ensures { λ r. ⌜ r ≡ stateAt (tableOf (now (words .entry))) at ⌝ }
 {
-    let base = at * 3;
+    let base = at * 5;
     State {
         mask: words[base],
         misses: words[base + 1],
-        units: Units(words[base + 2]),
+        filled: Filled {
+            front: words[base + 2],
+            back: words[base + 3],
+        },
+        units: Units(words[base + 4]),
     }
 }
 
 // The table with `s` at place `at`.
 pub(crate) fn store(words: &mut [u64], at: usize, s: State)
-    requires { ⌜ at * 3 + 3 ≤ length (now words) ⌝ }
+    requires { ⌜ at * 5 + 5 ≤ length (now words) ⌝ }
     ensures { λ _. ⌜ tableOf (now (words .exit)) ≡ set (tableOf (now (words .entry))) at s ⌝ }
 {
-    let base = at * 3;
+    let base = at * 5;
+    let f = s.filled;
     let u = s.units;
     words[base] = s.mask;
     words[base + 1] = s.misses;
-    words[base + 2] = u.0;
+    words[base + 2] = f.front;
+    words[base + 3] = f.back;
+    words[base + 4] = u.0;
 }
 
 // The `n` states at place `from` stand at place `to` too; the two stretches do not meet.
 pub(crate) fn copy(words: &mut [u64], from: usize, to: usize, n: usize)
-    requires { ⌜ ((from + n) * 3 ≤ length (now words)) × ((to + n) * 3 ≤ length (now words)) × ((to + n ≤ from) ⊎ (from + n ≤ to)) ⌝ }
+    requires { ⌜ ((from + n) * 5 ≤ length (now words)) × ((to + n) * 5 ≤ length (now words)) × ((to + n ≤ from) ⊎ (from + n ≤ to)) ⌝ }
     ensures { λ _. ⌜ tableOf (now (words .exit)) ≡ paste (tableOf (now (words .entry))) to (drop from (tableOf (now (words .entry)))) n ⌝ }
 {
     let mut i: usize = 0;

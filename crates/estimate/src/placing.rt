@@ -1,7 +1,9 @@
 // States put into an ordered table, each where it belongs.
+use crate::filled::same_filled;
 use crate::memory::load;
 use crate::memory::store;
 use rules::State;
+use rules::stands_before;
 ghost use mathlib.Core.Path.{_≡_};
 ghost use mathlib.Core.Bool.{true, _&&_};
 ghost use mathlib.Core.List.{[], _∷_, _++_};
@@ -12,45 +14,44 @@ ghost use Rattle.rules.specs.Table.{order, plus as plusOf, rising, stateAt};
 ghost use Rattle.words.specs.Tables.{tableOf};
 ghost use Rattle.estimate.specs.Placing.{isAfter, isSame, placeOf, Inserted, Added};
 
-// Whether `s` stands after `t`: by mask, then by misses.
+// Whether `s` stands after `t`.
 pub(crate) fn is_after(s: State, t: State) -> bool
     ensures { λ r. ⌜ r ≡ isAfter (order s t) ⌝ }
 {
-    if t.mask < s.mask {
-        return true;
-    }
-    if s.mask < t.mask {
-        return false;
-    }
-    t.misses < s.misses
+    stands_before(t, s)
 }
 
 // Whether `s` and `t` stand in the same place.
 pub(crate) fn is_same(s: State, t: State) -> bool
     ensures { λ r. ⌜ r ≡ isSame (order s t) ⌝ }
 {
-    if s.mask == t.mask {
-        return s.misses == t.misses;
+    if s.mask != t.mask {
+        return false;
     }
-    false
+    if s.misses != t.misses {
+        return false;
+    }
+    same_filled(s.filled, t.filled)
 }
 
 // `t` with the units of `s`.
 pub(crate) fn plus(t: State, s: State) -> State
     ensures { λ r. ⌜ r ≡ plusOf t s ⌝ }
 {
+    let filled = t.filled;
     let u = t.units;
     let v = s.units;
     State {
         mask: t.mask,
         misses: t.misses,
+        filled,
         units: u.add(v),
     }
 }
 
 // How many of the first `n` states stand before `s`: by halves.
 pub(crate) fn seek(words: &[u64], n: usize, s: State) -> usize
-    requires { ⌜ (n * 3 ≤ length (now words)) × (rising (take n (tableOf (now words))) ≡ true) ⌝ }
+    requires { ⌜ (n * 5 ≤ length (now words)) × (rising (take n (tableOf (now words))) ≡ true) ⌝ }
     ensures { λ r. ⌜ r ≡ placeOf s (take n (tableOf (now (words .entry)))) ⌝ }
 {
     let mut low: usize = 0;
@@ -68,7 +69,7 @@ pub(crate) fn seek(words: &[u64], n: usize, s: State) -> usize
 
 // Whether `s` belongs to the state at place `at` of `n`.
 pub(crate) fn meets(words: &[u64], n: usize, at: usize, s: State) -> bool
-    requires { ⌜ n * 3 ≤ length (now words) ⌝ }
+    requires { ⌜ n * 5 ≤ length (now words) ⌝ }
     ensures { λ r. ⌜ r ≡ (ltb at n && isSame (order s (stateAt (tableOf (now (words .entry))) at))) ⌝ }
 {
     if at < n {
@@ -79,7 +80,7 @@ pub(crate) fn meets(words: &[u64], n: usize, at: usize, s: State) -> bool
 
 // Makes room at place `at` among the first `n` states, and puts `s` there.
 pub(crate) fn make_room(words: &mut [u64], n: usize, at: usize, s: State)
-    requires { ⌜ (at ≤ n) × (n * 3 + 3 ≤ length (now words)) ⌝ }
+    requires { ⌜ (at ≤ n) × (n * 5 + 5 ≤ length (now words)) ⌝ }
     ensures { λ _. ⌜ take (suc n) (tableOf (now (words .exit))) ≡ take at (tableOf (now (words .entry))) ++ (s ∷ drop at (take n (tableOf (now (words .entry))))) ⌝ }
 {
     let mut j = n;
@@ -93,7 +94,7 @@ pub(crate) fn make_room(words: &mut [u64], n: usize, at: usize, s: State)
 
 // Puts `s` into the table of the first `n` states; how many it then has.
 pub(crate) fn put(words: &mut [u64], n: usize, s: State) -> usize
-    requires { ⌜ (n * 3 + 3 ≤ length (now words)) × (rising (take n (tableOf (now words))) ≡ true) ⌝ }
+    requires { ⌜ (n * 5 + 5 ≤ length (now words)) × (rising (take n (tableOf (now words))) ≡ true) ⌝ }
     ensures { λ r. ⌜ Inserted s n r (tableOf (now (words .entry))) (tableOf (now (words .exit))) ⌝ }
 {
     let at = seek(words, n, s);
@@ -108,7 +109,7 @@ pub(crate) fn put(words: &mut [u64], n: usize, s: State) -> usize
 
 // The same; a state of 0 units vanishes.
 pub(crate) fn add(words: &mut [u64], n: usize, s: State) -> usize
-    requires { ⌜ (n * 3 + 3 ≤ length (now words)) × (rising (take n (tableOf (now words))) ≡ true) ⌝ }
+    requires { ⌜ (n * 5 + 5 ≤ length (now words)) × (rising (take n (tableOf (now words))) ≡ true) ⌝ }
     ensures { λ r. ⌜ Added (s ∷ []) n r (tableOf (now (words .entry))) (tableOf (now (words .exit))) ⌝ }
 {
     let u = s.units;

@@ -23,15 +23,15 @@ ghost use Rattle.estimate.specs.Working.{workAt, Ready};
 
 // The `n` states of the scratch folded to at most `limit`.
 pub(crate) fn fold_scratch(work: &mut [u64], n: usize, limit: usize, aside: Units) -> Tally
-    requires { ⌜ (12288 + n * 3 ≤ length (now work)) × (1 ≤ limit) × (rising (take n (drop 4096 (tableOf (now work)))) ≡ true) ⌝ }
+    requires { ⌜ (20480 + n * 5 ≤ length (now work)) × (1 ≤ limit) × (rising (take n (drop 4096 (tableOf (now work)))) ≡ true) ⌝ }
     ensures { λ r. ⌜ InPlace (folded limit (record { table = take n (drop 4096 (tableOf (now (work .entry)))); aside = aside .0 })) 4096 (r .states) (r .aside .0) (tableOf (now (work .entry))) (tableOf (now (work .exit))) ⌝ }
 {
-    fold_down(&mut work[12288..], n, limit, aside)
+    fold_down(&mut work[20480..], n, limit, aside)
 }
 
 // The `n` states of the scratch folded to at most `limit`, and put at place `at`.
 pub(crate) fn settle(work: &mut [u64], at: usize, n: usize, aside: Units, limit: usize) -> Tally
-    requires { ⌜ (15552 ≤ length (now work)) × (at + 64 ≤ 4096) × (n ≤ 1088) × (1 ≤ limit) × (limit ≤ 64) × (rising (take n (drop 4096 (tableOf (now work)))) ≡ true) ⌝ }
+    requires { ⌜ (25920 ≤ length (now work)) × (at + 64 ≤ 4096) × (n ≤ 1088) × (1 ≤ limit) × (limit ≤ 64) × (rising (take n (drop 4096 (tableOf (now work)))) ≡ true) ⌝ }
     ensures { λ r. ⌜ InPlace (folded limit (record { table = take n (drop 4096 (tableOf (now (work .entry)))); aside = aside .0 })) at (r .states) (r .aside .0) (tableOf (now (work .entry))) (tableOf (now (work .exit))) ⌝ }
 {
     let folded = fold_scratch(work, n, limit, aside);
@@ -93,7 +93,7 @@ pub(crate) fn join_to(
     m: usize,
     limit: usize,
 ) -> Tally
-    requires { ⌜ (15552 ≤ length (now work)) × (at + 64 ≤ 4096) × (tally .states ≤ 64) × (other + 64 ≤ 4096) × (m ≤ 64) × (1 ≤ limit) × (limit ≤ 64) ⌝ }
+    requires { ⌜ (25920 ≤ length (now work)) × (at + 64 ≤ 4096) × (tally .states ≤ 64) × (other + 64 ≤ 4096) × (m ≤ 64) × (1 ≤ limit) × (limit ≤ 64) ⌝ }
     ensures { λ r. ⌜ InPlace (folded limit (record { table = join (take (tally .states) (drop at (tableOf (now (work .entry))))) (take m (drop other (tableOf (now (work .entry))))); aside = tally .aside .0 })) at (r .states) (r .aside .0) (tableOf (now (work .entry))) (tableOf (now (work .exit))) ⌝ }
 {
     let n = pair_up(work, at, tally.states, other, m);

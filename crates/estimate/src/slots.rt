@@ -1,19 +1,20 @@
 // The slots of the working room: a node's table, and no states behind it.
 use crate::memory::load;
 use crate::memory::store;
+use rules::Filled;
 use rules::State;
 use rules::Units;
 ghost use mathlib.Core.Path.{_≡_};
 ghost use Prim.Native.Nat.{_+_, _-_, _*_, _≤_};
 ghost use lib.ListN.{length, take, drop, replicate};
 ghost use lib.Seq.{paste};
-ghost use Rattle.rules.specs.Table.{state};
+ghost use Rattle.rules.specs.Table.{noState};
 ghost use Rattle.words.specs.Tables.{tableOf};
 ghost use Rattle.estimate.specs.Rooms.{filled};
 
 // How many states the table at place `at` has: those before the first of 0 units, of 64.
 pub(crate) fn count(work: &[u64], at: usize) -> usize
-    requires { ⌜ (at + 64) * 3 ≤ length (now work) ⌝ }
+    requires { ⌜ (at + 64) * 5 ≤ length (now work) ⌝ }
     ensures { λ r. ⌜ r ≡ filled (take 64 (drop at (tableOf (now (work .entry))))) ⌝ }
 {
     let mut n: usize = 0;
@@ -29,8 +30,8 @@ pub(crate) fn count(work: &[u64], at: usize) -> usize
 
 // No state stands behind the `n` states at place `at`, of 64.
 pub(crate) fn seal(work: &mut [u64], at: usize, n: usize)
-    requires { ⌜ (n ≤ 64) × ((at + 64) * 3 ≤ length (now work)) ⌝ }
-    ensures { λ _. ⌜ tableOf (now (work .exit)) ≡ paste (tableOf (now (work .entry))) (at + n) (replicate 64 (state 0 0 0)) (64 - n) ⌝ }
+    requires { ⌜ (n ≤ 64) × ((at + 64) * 5 ≤ length (now work)) ⌝ }
+    ensures { λ _. ⌜ tableOf (now (work .exit)) ≡ paste (tableOf (now (work .entry))) (at + n) (replicate 64 noState) (64 - n) ⌝ }
 {
     let mut i = n;
     while i < 64 {
@@ -40,6 +41,7 @@ pub(crate) fn seal(work: &mut [u64], at: usize, n: usize)
             State {
                 mask: 0,
                 misses: 0,
+                filled: Filled { front: 0, back: 0 },
                 units: Units(0),
             },
         );

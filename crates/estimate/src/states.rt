@@ -1,4 +1,5 @@
 // Two states together, and what is told of a table.
+use crate::filled::fullest;
 use basics::larger;
 use rules::State;
 use rules::Units;
@@ -11,13 +12,14 @@ pub(crate) struct Tally {
     pub aside: Units,
 }
 
-// `units` of the shared blocks and the larger miss count.
+// `units` of the shared blocks, the larger miss count and the larger filled number of each set.
 pub(crate) fn meet(s: State, t: State, units: Units) -> State
     ensures { λ r. ⌜ r ≡ meetOf s t (units .0) ⌝ }
 {
     State {
         mask: s.mask & t.mask,
         misses: larger(s.misses, t.misses),
+        filled: fullest(s.filled, t.filled),
         units,
     }
 }

@@ -46,6 +46,7 @@ ghost use Rattle.estimate_c.specs.Given.{graphGiven, amountGiven, countG
 pub extern "C" fn estimate_graph(
     sets: u32,
     ways: u32,
+    revision: u32,
     limit: u32,
     tracked: &[u32],
     runs: &[u32],
@@ -56,10 +57,14 @@ pub extern "C" fn estimate_graph(
     states: &mut usize,
     aside: &mut u64,
 ) -> u64
-    ensures { λ r. ⌜ record { number = r; states = now (states .exit); aside = now (aside .exit); result = now (result .exit); work = now (work .exit) } ≡ graphGiven (analysed (cache sets ways) limit (now (tracked .entry)) (now (runs .entry)) (now (accesses .entry)) (now (edges .entry)) (now (result .entry)) (now (work .entry))) (now (states .entry)) (now (aside .entry)) ⌝ }
+    ensures { λ r. ⌜ record { number = r; states = now (states .exit); aside = now (aside .exit); result = now (result .exit); work = now (work .exit) } ≡ graphGiven (analysed (cache sets ways revision) limit (now (tracked .entry)) (now (runs .entry)) (now (accesses .entry)) (now (edges .entry)) (now (result .entry)) (now (work .entry))) (now (states .entry)) (now (aside .entry)) ⌝ }
 {
     match analyse(
-        Cache { sets, ways },
+        Cache {
+            sets,
+            ways,
+            revision,
+        },
         limit,
         tracked,
         runs,
@@ -155,6 +160,7 @@ pub extern "C" fn estimate_spread(
 pub extern "C" fn estimate_longest_path(
     sets: u32,
     ways: u32,
+    revision: u32,
     limit: u32,
     tracked: &[u32],
     runs: &[u32],
@@ -162,9 +168,20 @@ pub extern "C" fn estimate_longest_path(
     edges: &[u32],
     longest: &mut u64,
 ) -> u64
-    ensures { λ r. ⌜ record { number = r; value = now (longest .exit) } ≡ lengthGiven (longestAnswer (inputOf (cache sets ways) limit (now (tracked .entry)) (now (runs .entry)) (now (accesses .entry)) (now (edges .entry)))) (now (longest .entry)) ⌝ }
+    ensures { λ r. ⌜ record { number = r; value = now (longest .exit) } ≡ lengthGiven (longestAnswer (inputOf (cache sets ways revision) limit (now (tracked .entry)) (now (runs .entry)) (now (accesses .entry)) (now (edges .entry)))) (now (longest .entry)) ⌝ }
 {
-    match longest_path(Cache { sets, ways }, limit, tracked, runs, accesses, edges) {
+    match longest_path(
+        Cache {
+            sets,
+            ways,
+            revision,
+        },
+        limit,
+        tracked,
+        runs,
+        accesses,
+        edges,
+    ) {
         Length::Accesses(found) => {
             *longest = found;
             0

@@ -5,4 +5,4 @@ use Rattle.rules.specs.Input.{Input, cache, inputOf}
 
 -- the run lengths ns and the edges es, without the rest
 abbrev pub graphOf : List ℕ → List ℕ → Input
-graphOf ns es = inputOf (cache 0 0) 0 [] ns [] es
+graphOf ns es = inputOf (cache 0 0 0) 0 [] ns [] es

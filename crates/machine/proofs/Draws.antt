@@ -12,8 +12,8 @@ use lib.ListN.{length, length-append, length-map}
 use borrow.Author.Tests.{eq-eqb, ne-eqb}
 use Rattle.basics.specs.Sums.{sumOver}
 use Rattle.basics.proofs.Sums.{sumTo, sum-append, sum-map, sum-each}
-use Rattle.machine.specs.Cache.{Cache, start, access, run}
-use Rattle.machine.specs.Draws.{withEach, draws, count}
+use Rattle.machine.specs.Cache.{Revision, Cache, access, run}
+use Rattle.machine.specs.Draws.{withEach, draws, countFrom}
 
 -- there are N ^ L choice sequences of L accesses
 pub draws-many : (N L : ℕ) → length (draws N L) ≡ N ^ L
@@ -79,18 +79,18 @@ draws-once N (suc L) (d ∷ s) h = draw-below d N s (draws N L) (h .0) ∙ draws
 -- ---- a sum over the choice sequences of a path
 
 -- F of the cache that each choice sequence makes of c, summed
-unfoldable pub total : (Cache → ℕ) → ℕ → Cache → List ℕ → ℕ
-total F N c p = sumOver (λ ds. F (run c p ds)) (draws N (length p))
+unfoldable pub total : (Cache → ℕ) → Revision → ℕ → Cache → List ℕ → ℕ
+total F v N c p = sumOver (λ ds. F (run v c p ds)) (draws N (length p))
 
-pub total-nil : (F : Cache → ℕ) (N : ℕ) (c : Cache) → total F N c [] ≡ F c
+pub total-nil : (F : Cache → ℕ) (v : Revision) (N : ℕ) (c : Cache) → total F v N c [] ≡ F c
 unfolding total run
-total-nil F N c = omega arith
+total-nil F v N c = omega arith
 
 -- the first access takes each of the N ways in turn
-pub total-cons : (F : Cache → ℕ) (N : ℕ) (c : Cache) (b : ℕ) (p : List ℕ)
-    → total F N c (b ∷ p) ≡ sumTo N (λ d. total F N (access c b d) p)
+pub total-cons : (F : Cache → ℕ) (v : Revision) (N : ℕ) (c : Cache) (b : ℕ) (p : List ℕ)
+    → total F v N c (b ∷ p) ≡ sumTo N (λ d. total F v N (access v c b d) p)
 unfolding total run
-total-cons F N c b p = by-first (λ ds. F (run c (b ∷ p) ds)) N (draws N (length p))
+total-cons F v N c b p = by-first (λ ds. F (run v c (b ∷ p) ds)) N (draws N (length p))
   where
     by-first : (G : List ℕ → ℕ) (n : ℕ) (ss : List (List ℕ)) → sumOver G (withEach n ss) ≡ sumTo n (λ d. sumOver (λ s. G (d ∷ s)) ss)
     by-first G zero ss = refl
@@ -99,24 +99,25 @@ total-cons F N c b p = by-first (λ ds. F (run c (b ∷ p) ds)) N (draws N (leng
 
 -- ---- counts of choice sequences
 
--- a test that passes wherever another does counts at least as many
-pub count-le : (P Q : Cache → Bool) (Z N : ℕ) (p : List ℕ)
-    → ((ds : List ℕ) → P (run (start Z N) p ds) ≡ true → Q (run (start Z N) p ds) ≡ true) → count P Z N p ≤ count Q Z N p
-unfolding count
-count-le P Q Z N p h = go (draws N (length p))
-  where
-    one : (a b : Bool) → (a ≡ true → b ≡ true) → cond a 1 0 ≤ cond b 1 0
-    one false b t = zero-le
-    one true b t = rw (t refl) (le-refl 1)
+module _ (v : Revision) (N : ℕ) (c : Cache) (p : List ℕ) where
+  -- a test that passes wherever another does counts at least as many
+  pub count-le : (P Q : Cache → Bool) → ((ds : List ℕ) → P (run v c p ds) ≡ true → Q (run v c p ds) ≡ true)
+      → countFrom P v N c p ≤ countFrom Q v N c p
+  unfolding countFrom
+  count-le P Q h = go (draws N (length p))
+    where
+      one : (a b : Bool) → (a ≡ true → b ≡ true) → cond a 1 0 ≤ cond b 1 0
+      one false b t = zero-le
+      one true b t = rw (t refl) (le-refl 1)
 
-    go : (ss : List (List ℕ)) → sumOver (λ ds. cond (P (run (start Z N) p ds)) 1 0) ss ≤ sumOver (λ ds. cond (Q (run (start Z N) p ds)) 1 0) ss
-    go [] = zero-le
-    go (s ∷ ss) = add-le-add (one (P (run (start Z N) p s)) (Q (run (start Z N) p s)) (h s)) (go ss)
+      go : (ss : List (List ℕ)) → sumOver (λ ds. cond (P (run v c p ds)) 1 0) ss ≤ sumOver (λ ds. cond (Q (run v c p ds)) 1 0) ss
+      go [] = zero-le
+      go (s ∷ ss) = add-le-add (one (P (run v c p s)) (Q (run v c p s)) (h s)) (go ss)
 
--- all of them, and no count is more
-pub count-all : (Z N : ℕ) (p : List ℕ) → count (λ c. true) Z N p ≡ N ^ length p
-unfolding count
-count-all Z N p = omega (arith, sum-each 1 (draws N (length p)), draws-many N (length p))
+  -- all of them, and no count is more
+  pub count-all : countFrom (λ k. true) v N c p ≡ N ^ length p
+  unfolding countFrom
+  count-all = omega (arith, sum-each 1 (draws N (length p)), draws-many N (length p))
 
-pub count-most : (test : Cache → Bool) (Z N : ℕ) (p : List ℕ) → count test Z N p ≤ N ^ length p
-count-most test Z N p = rw (← count-all Z N p) (count-le test (λ c. true) Z N p (λ ds h. refl))
+  pub count-most : (test : Cache → Bool) → countFrom test v N c p ≤ N ^ length p
+  count-most test = rw (← count-all) (count-le test (λ k. true) (λ ds h. refl))

@@ -1,35 +1,152 @@
--- What an access does: a way is drawn at a hit too and changes nothing; a miss overwrites the drawn way of the block's set and no other,
--- an empty one as any; there are always Z sets of N ways, and no block ever stands in two ways of a set.
+-- What an access does: a way is drawn at a hit too and changes nothing; a miss overwrites one way of the block's set and no other: the
+-- drawn one, an empty one as any; in the second revision an empty one while there is one; there are always Z sets of N ways, and no block ever stands in two ways of a set.
 use mathlib.Core.Path.{_≡_, refl, sym, ap, _∙_}
-use mathlib.Core.Logic.{_≢_}
-use mathlib.Core.Bool.{Bool, true, false, _||_, true≢false}
+use mathlib.Core.Logic.{_≢_, _⊎_, inl, inr}
+use mathlib.Core.Bool.{Bool, true, false, cond, _||_, true≢false}
 use mathlib.Core.List.{List, [], _∷_}
-use Prim.Native.Nat.{ℕ, zero, suc, _+_, _%_, _<_, _≤_}
-use native.Mathlib.Nat.{le-of-suc-le-suc, not-suc-le-zero, mod-lt}
-use native.Mathlib.Decide.{ℕ-discrete}
+use Prim.Native.Nat.{ℕ, zero, suc, _+_, _%_, _<_, _≤_, zero-le, suc-le-suc}
+use native.Mathlib.Nat.{le-of-suc-le-suc, not-suc-le-zero, le-of-eq, mod-lt}
+use native.Mathlib.Decide.{ℕ-discrete, decLt}
 use native.Mathlib.Omega.{arith}
-use lib.Dec.{eqb}
-use lib.ListN.{length, getD, set, replicate, length-set, length-replicate, getD-replicate}
+use lib.Dec.{eqb, ltb}
+use lib.ListN.{length, getD, set, replicate, length-set, length-replicate, getD-replicate, List·getD-eq-default}
 use lib.Seq.{getD-set-same, getD-set-other}
-use borrow.Author.Tests.{eqb-true, eq-eqb, ne-eqb}
+use borrow.Author.Tests.{eqb-true, eq-eqb, ne-eqb, ltb-true, ltb-false}
 use Rattle.basics.proofs.Bools.{or-right, neither, not-left, not-right}
-use Rattle.machine.specs.Cache.{Way, empty, holding, isHolding, holds, Cache, start, setOf, waysOf, inCache, overwrite, access, run}
+use Rattle.machine.specs.Cache.{Way, empty, holding, isHolding, holds, Cache, start, setOf, waysOf, inCache, Revision, first, second, hasEmpty, firstEmpty, victim, overwrite, access, run, Fresh, Apart, Built}
+
+-- ---- the overwritten way
+
+-- how many of the ways hold a block
+abbrev pub filledWays : List Way → ℕ
+filledWays [] = 0
+filledWays (empty ∷ ws) = filledWays ws
+filledWays (holding b ∷ ws) = suc (filledWays ws)
+
+-- how many may: in the first revision any way may be overwritten at any time, so all of them
+abbrev pub mayFill : Revision → List Way → ℕ
+mayFill first ws = length ws
+mayFill second ws = filledWays ws
+
+pub filled-most : (ws : List Way) → filledWays ws ≤ length ws
+filled-most [] = omega arith
+filled-most (empty ∷ ws) = omega (arith, filled-most ws)
+filled-most (holding b ∷ ws) = omega (arith, filled-most ws)
+
+-- while not all are filled one is empty; then the first empty way is one of them
+some-empty : (ws : List Way) → filledWays ws < length ws → hasEmpty ws ≡ true
+some-empty [] l = absurd (omega arith)
+some-empty (empty ∷ ws) l = refl
+some-empty (holding b ∷ ws) l = some-empty ws (le-of-suc-le-suc l)
+
+none-empty : (ws : List Way) → length ws ≤ filledWays ws → hasEmpty ws ≡ false
+none-empty [] l = refl
+none-empty (empty ∷ ws) l = absurd (omega (arith, filled-most ws))
+none-empty (holding b ∷ ws) l = none-empty ws (le-of-suc-le-suc l)
+
+first-empty : (ws : List Way) → hasEmpty ws ≡ true → (firstEmpty ws < length ws) × (getD ws (firstEmpty ws) empty ≡ empty)
+first-empty [] h = absurd (true≢false (sym h))
+first-empty (empty ∷ ws) h = (omega arith, refl)
+first-empty (holding b ∷ ws) h = let (l, e) = first-empty ws h in (suc-le-suc l, e)
+
+module _ (v : Revision) (ws : List Way) (d : ℕ) where
+  -- an empty one while not all may be filled, and the drawn one when all may
+  pub victim-spare : mayFill v ws < length ws → getD ws (victim v ws d) empty ≡ empty
+  unfolding victim
+  victim-spare l = pick v l
+    where
+      pick : (v : Revision) → mayFill v ws < length ws → getD ws (victim v ws d) empty ≡ empty
+      pick first l = absurd (omega arith)
+      pick second l = let h = some-empty ws l in rw h (first-empty ws h .1)
+
+  pub victim-drawn : length ws ≤ mayFill v ws → victim v ws d ≡ d
+  unfolding victim
+  victim-drawn l = pick v l
+    where
+      pick : (v : Revision) → length ws ≤ mayFill v ws → victim v ws d ≡ d
+      pick first l = refl
+      pick second l = rw (none-empty ws l)
+
+  -- it is one of the ways, and always the drawn one or an empty one
+  pub victim-way : d < length ws → victim v ws d < length ws
+  unfolding victim
+  victim-way l = pick v
+    where
+      go : (a : Bool) → hasEmpty ws ≡ a → cond a (firstEmpty ws) d < length ws
+      go true h = first-empty ws h .0
+      go false h = l
+
+      pick : (v : Revision) → victim v ws d < length ws
+      pick first = l
+      pick second = go (hasEmpty ws) refl
+
+  pub victim-cases : (victim v ws d ≡ d) ⊎ (getD ws (victim v ws d) empty ≡ empty)
+  unfolding victim
+  victim-cases = pick v
+    where
+      go : (a : Bool) → hasEmpty ws ≡ a → (cond a (firstEmpty ws) d ≡ d) ⊎ (getD ws (cond a (firstEmpty ws) d) empty ≡ empty)
+      go true h = inr (first-empty ws h .1)
+      go false h = inl refl
+
+      pick : (v : Revision) → (victim v ws d ≡ d) ⊎ (getD ws (victim v ws d) empty ≡ empty)
+      pick first = inl refl
+      pick second = go (hasEmpty ws) refl
+
+-- a block more in an empty way, and one for another
+filled-new : (ws : List Way) (d b : ℕ) → d < length ws → getD ws d empty ≡ empty → filledWays (set ws d (holding b)) ≡ suc (filledWays ws)
+filled-new [] d b l e = absurd (omega arith)
+filled-new (empty ∷ ws) zero b l e = refl
+filled-new (holding a ∷ ws) zero b l e = let z : _≡_ {A = ℕ} 0 1 = cc in absurd (omega arith)
+filled-new (empty ∷ ws) (suc d) b l e = filled-new ws d b (le-of-suc-le-suc l) e
+filled-new (holding a ∷ ws) (suc d) b l e = ap suc (filled-new ws d b (le-of-suc-le-suc l) e)
+
+filled-same : (ws : List Way) (d b : ℕ) → length ws ≤ filledWays ws → filledWays (set ws d (holding b)) ≡ filledWays ws
+filled-same [] d b l = refl
+filled-same (empty ∷ ws) d b l = absurd (omega (arith, filled-most ws))
+filled-same (holding a ∷ ws) zero b l = refl
+filled-same (holding a ∷ ws) (suc d) b l = ap suc (filled-same ws d b (le-of-suc-le-suc l))
+
+-- so a miss makes it one more of those that may be filled, until all may
+pub may-more : (v : Revision) (ws : List Way) (d b : ℕ) → d < length ws
+    → mayFill v (set ws (victim v ws d) (holding b)) ≡ cond (ltb (mayFill v ws) (length ws)) (suc (mayFill v ws)) (mayFill v ws)
+may-more v ws d b l = go (ltb (mayFill v ws) (length ws)) refl
+  where
+    more : (v : Revision) → mayFill v ws < length ws → mayFill v (set ws (victim v ws d) (holding b)) ≡ suc (mayFill v ws)
+    more first k = absurd (omega arith)
+    more second k = filled-new ws (victim second ws d) b (victim-way second ws d l) (victim-spare second ws d k)
+
+    all : (v : Revision) → length ws ≤ mayFill v ws → mayFill v (set ws (victim v ws d) (holding b)) ≡ mayFill v ws
+    all first k = length-set ws (victim first ws d) (holding b)
+    all second k = filled-same ws (victim second ws d) b k
+
+    go : (t : Bool) → ltb (mayFill v ws) (length ws) ≡ t → mayFill v (set ws (victim v ws d) (holding b)) ≡ cond t (suc (mayFill v ws)) (mayFill v ws)
+    go true e = more v (ltb-true (mayFill v ws) (length ws) e)
+    go false e = all v (ltb-false (mayFill v ws) (length ws) e)
+
+pub may-most : (v : Revision) (ws : List Way) → mayFill v ws ≤ length ws
+may-most first ws = omega arith
+may-most second ws = filled-most ws
+
+-- the ways that are filled may be
+pub filled-may : (v : Revision) (ws : List Way) → filledWays ws ≤ mayFill v ws
+filled-may first ws = filled-most ws
+filled-may second ws = omega arith
 
 -- ---- one access
 
 -- at a hit the draw is unused
-pub access-hit : (c : Cache) (b d : ℕ) → inCache c b ≡ true → access c b d ≡ c
+pub access-hit : (v : Revision) (c : Cache) (b d : ℕ) → inCache c b ≡ true → access v c b d ≡ c
 unfolding access
-access-hit c b d h = rw (h, access)
+access-hit v c b d h = rw (h, access)
 
-pub access-miss : (c : Cache) (b d : ℕ) → inCache c b ≡ false → access c b d ≡ overwrite c b d
+pub access-miss : (v : Revision) (c : Cache) (b d : ℕ) → inCache c b ≡ false → access v c b d ≡ overwrite c b (victim v (waysOf c b) d)
 unfolding access
-access-miss c b d h = rw (h, access)
+access-miss v c b d h = rw (h, access)
 
 -- the cache has as many sets as it had
 pub sets-stay : (c : Cache) (b d : ℕ) → length (overwrite c b d .sets) ≡ length (c .sets)
 unfolding overwrite
-sets-stay c b d = length-set (c .sets) (setOf c b) _
+sets-stay c b d = length-set (c .sets) _ _
 
 -- and the block's set is one of them
 pub set-there : (c : Cache) (b : ℕ) → 0 < length (c .sets) → setOf c b < length (c .sets)
@@ -63,31 +180,36 @@ module _ (c : Cache) (b d : ℕ) where
   held-other t n =
       ap (λ (j : ℕ). holds (getD (overwrite c b d .sets) j []) t) (ap (t %_) (sets-stay c b d)) ∙ ap (λ (ws : List Way). holds ws t) (other-set (setOf c t) n)
 
--- at a miss the drawn way of the block's set then holds the block, and each other way what it held
-pub miss-drawn : (c : Cache) (b d : ℕ) → inCache c b ≡ false → 0 < length (c .sets) → d < length (waysOf c b)
-    → getD (getD (access c b d .sets) (setOf c b) []) d empty ≡ holding b
-miss-drawn c b d h some l = rw (access-miss c b d h, this-set c b d some) (getD-set-same (waysOf c b) d (holding b) empty l)
+-- at a miss the overwritten way of the block's set then holds the block, and each other way what it held
+pub miss-victim : (v : Revision) (c : Cache) (b d : ℕ) → inCache c b ≡ false → 0 < length (c .sets) → d < length (waysOf c b)
+    → getD (getD (access v c b d .sets) (setOf c b) []) (victim v (waysOf c b) d) empty ≡ holding b
+miss-victim v c b d h some l =
+    let e : ℕ = victim v (waysOf c b) d in
+    rw (access-miss v c b d h, this-set c b e some) (getD-set-same (waysOf c b) e (holding b) empty (victim-way v (waysOf c b) d l))
 
-pub miss-others : (c : Cache) (b d j e : ℕ) → inCache c b ≡ false → 0 < length (c .sets) → (j ≡ setOf c b → e ≢ d)
-    → getD (getD (access c b d .sets) j []) e empty ≡ getD (getD (c .sets) j []) e empty
-miss-others c b d j e h some n = rw (access-miss c b d h) (go (ℕ-discrete j (setOf c b)))
+pub miss-others : (v : Revision) (c : Cache) (b d j e : ℕ) → inCache c b ≡ false → 0 < length (c .sets) → (j ≡ setOf c b → e ≢ victim v (waysOf c b) d)
+    → getD (getD (access v c b d .sets) j []) e empty ≡ getD (getD (c .sets) j []) e empty
+miss-others v c b d j e h some n = rw (access-miss v c b d h) (go (ℕ-discrete j (setOf c b)))
   where
-    go : Dec (j ≡ setOf c b) → getD (getD (overwrite c b d .sets) j []) e empty ≡ getD (getD (c .sets) j []) e empty
-    go (yes q) = rw (q, this-set c b d some) (getD-set-other (waysOf c b) d e (holding b) empty (n q))
-    go (no q) = rw (other-set c b d j q)
+    w : ℕ
+    w = victim v (waysOf c b) d
+
+    go : Dec (j ≡ setOf c b) → getD (getD (overwrite c b w .sets) j []) e empty ≡ getD (getD (c .sets) j []) e empty
+    go (yes q) = rw (q, this-set c b w some) (getD-set-other (waysOf c b) w e (holding b) empty (n q))
+    go (no q) = rw (other-set c b w j q)
 
 -- ---- the misses of a path
 
 -- at most one for each access; the other accesses are its hits
-pub run-misses : (c : Cache) (p ds : List ℕ) → run c p ds .misses ≤ c .misses + length p
+pub run-misses : (v : Revision) (c : Cache) (p ds : List ℕ) → run v c p ds .misses ≤ c .misses + length p
 unfolding run overwrite
-run-misses c [] ds = omega arith
-run-misses c (b ∷ p) [] = omega arith
-run-misses c (b ∷ p) (d ∷ ds) = omega (arith, run-misses (access c b d) p ds, one (inCache c b) refl)
+run-misses v c [] ds = omega arith
+run-misses v c (b ∷ p) [] = omega arith
+run-misses v c (b ∷ p) (d ∷ ds) = omega (arith, run-misses v (access v c b d) p ds, one (inCache c b) refl)
   where
-    one : (a : Bool) → inCache c b ≡ a → access c b d .misses ≤ suc (c .misses)
-    one true h = rw (access-hit c b d h) (omega arith)
-    one false h = rw (access-miss c b d h) (omega arith)
+    one : (a : Bool) → inCache c b ≡ a → access v c b d .misses ≤ suc (c .misses)
+    one true h = rw (access-hit v c b d h) (omega arith)
+    one false h = rw (access-miss v c b d h) (omega arith)
 
 -- ---- what is held after a way is overwritten
 
@@ -115,15 +237,6 @@ holds-old (v ∷ ws) (suc d) c b n h =
 
 -- ---- no block stands in two ways
 
--- none of the ways holds what w holds
-abbrev pub Fresh : Way → List Way → Type 0
-Fresh empty ws = Unit {0}
-Fresh (holding b) ws = holds ws b ≡ false
-
-abbrev pub Apart : List Way → Type 0
-Apart [] = Unit {0}
-Apart (w ∷ ws) = Fresh w ws × Apart ws
-
 pub apart-set : (ws : List Way) (d b : ℕ) → holds ws b ≡ false → Apart ws → Apart (set ws d (holding b))
 apart-set [] d b n h = h
 apart-set (v ∷ ws) zero b n h = (not-right (isHolding v b) (holds ws b) n, h .1)
@@ -135,11 +248,13 @@ apart-set (v ∷ ws) (suc d) b n h = (fresh v n (h .0), apart-set ws d b (not-ri
 
 -- ---- Z sets of N ways
 
--- Z sets of N ways, and no block in two ways of a set
-pub record Built (Z N : ℕ) (c : Cache) : Type 0 where
-  pub count : length (c .sets) ≡ Z
-  pub wide : (j : ℕ) → j < Z → length (getD (c .sets) j []) ≡ N
-  pub apart : (j : ℕ) → Apart (getD (c .sets) j [])
+-- a set that there is has N ways, and any other none
+pub built-narrow : (Z N : ℕ) (c : Cache) → Built Z N c → (j : ℕ) → length (getD (c .sets) j []) ≤ N
+built-narrow Z N c h j = go (decLt j Z)
+  where
+    go : Dec (j < Z) → length (getD (c .sets) j []) ≤ N
+    go (yes l) = le-of-eq (h .wide j l)
+    go (no l) = rw (List·getD-eq-default (c .sets) [] {n = j} (omega (arith, h .count))) zero-le
 
 pub built-start : (Z N : ℕ) → Built Z N (start Z N)
 built-start Z N = record {
@@ -170,22 +285,22 @@ module _ (Z N : ℕ) (some : 0 < Z) where
       there : 0 < length (c .sets)
       there = omega (arith, h .count)
 
-  pub built-access : (c : Cache) (b d : ℕ) → Built Z N c → Built Z N (access c b d)
-  built-access c b d h = go (inCache c b) refl
+  pub built-access : (v : Revision) (c : Cache) (b d : ℕ) → Built Z N c → Built Z N (access v c b d)
+  built-access v c b d h = go (inCache c b) refl
     where
-      go : (a : Bool) → inCache c b ≡ a → Built Z N (access c b d)
-      go true e = rw (access-hit c b d e) h
-      go false e = rw (access-miss c b d e) (built-miss c b d e h)
+      go : (a : Bool) → inCache c b ≡ a → Built Z N (access v c b d)
+      go true e = rw (access-hit v c b d e) h
+      go false e = rw (access-miss v c b d e) (built-miss c b (victim v (waysOf c b) d) e h)
 
   -- whatever is accessed and drawn from the start on
-  pub built-run : (c : Cache) (p ds : List ℕ) → Built Z N c → Built Z N (run c p ds)
+  pub built-run : (v : Revision) (c : Cache) (p ds : List ℕ) → Built Z N c → Built Z N (run v c p ds)
   unfolding run
-  built-run c [] ds h = h
-  built-run c (b ∷ p) [] h = h
-  built-run c (b ∷ p) (d ∷ ds) h = built-run (access c b d) p ds (built-access c b d h)
+  built-run v c [] ds h = h
+  built-run v c (b ∷ p) [] h = h
+  built-run v c (b ∷ p) (d ∷ ds) h = built-run v (access v c b d) p ds (built-access v c b d h)
 
-  pub never-twice : (p ds : List ℕ) → Built Z N (run (start Z N) p ds)
-  never-twice p ds = built-run (start Z N) p ds (built-start Z N)
+  pub never-twice : (v : Revision) (p ds : List ℕ) → Built Z N (run v (start Z N) p ds)
+  never-twice v p ds = built-run v (start Z N) p ds (built-start Z N)
 
 -- so the block that a miss overwrites is gone
 pub holds-gone : (ws : List Way) (d c b : ℕ) → Apart ws → b ≢ c → isHolding (getD ws d empty) c ≡ true → holds (set ws d (holding b)) c ≡ false
@@ -205,3 +320,35 @@ holds-gone (v ∷ ws) (suc d) c b h n e = neither (isHolding v c) _ (other v (h 
     other : (v : Way) → Fresh v ws → isHolding v c ≡ false
     other empty f = refl
     other (holding x) f = ne-eqb x c (λ q. true≢false (sym (there ws d e) ∙ sym (ap (holds ws) q) ∙ f))
+
+-- ---- any starting contents
+
+-- no block in two ways of all sets: then none in two ways of a set, which is what `Built` asks; that each block is in its own set is not
+-- asked at all, since a block is looked for in its own set only
+holds-at : (ws : List Way) (b : ℕ) → holds ws b ≡ true → (e : ℕ) × (getD ws e empty ≡ holding b)
+holds-at [] b h = absurd (true≢false (sym h))
+holds-at (empty ∷ ws) b h = let (e, q) = holds-at ws b h in (suc e, q)
+holds-at (holding x ∷ ws) b h = go (eqb x b) refl h (holds-at ws b)
+  where
+    go : (t : Bool) → eqb x b ≡ t → (t || holds ws b) ≡ true → (holds ws b ≡ true → (e : ℕ) × (getD ws e empty ≡ holding b))
+        → (e : ℕ) × (getD (holding x ∷ ws) e empty ≡ holding b)
+    go true p q rest = (0, ap holding (eqb-true x b p))
+    go false p q rest = let (e, r) = rest q in (suc e, r)
+
+apart-so : (ws : List Way) → ((d e b : ℕ) → getD ws d empty ≡ holding b → getD ws e empty ≡ holding b → d ≡ e) → Apart ws
+apart-so [] h = tt
+apart-so (w ∷ ws) h = (fresh w h, apart-so ws (λ d e b p q. let z : suc d ≡ suc e = h (suc d) (suc e) b p q in omega arith))
+  where
+    fresh : (w : Way) → ((d e b : ℕ) → getD (w ∷ ws) d empty ≡ holding b → getD (w ∷ ws) e empty ≡ holding b → d ≡ e) → Fresh w ws
+    fresh empty h = tt
+    fresh (holding x) h = go (holds ws x) refl
+      where
+        go : (t : Bool) → holds ws x ≡ t → t ≡ false
+        go true p = let (e, q) = holds-at ws x p in let z : 0 ≡ suc e = h 0 (suc e) x refl q in absurd (omega arith)
+        go false p = refl
+
+pub built-so : (Z N : ℕ) (c : Cache) → length (c .sets) ≡ Z → ((j : ℕ) → j < Z → length (getD (c .sets) j []) ≡ N)
+    → ((j d k e b : ℕ) → getD (getD (c .sets) j []) d empty ≡ holding b → getD (getD (c .sets) k []) e empty ≡ holding b → (j ≡ k) × (d ≡ e))
+    → Built Z N c
+built-so Z N c count wide once =
+    record { count = count; wide = wide; apart = λ j. apart-so (getD (c .sets) j []) (λ d e b p q. once j d j e b p q .1) }

@@ -4,7 +4,7 @@ use mathlib.Core.List.{List, [], _∷_, _++_, map}
 use Prim.Native.Nat.{ℕ, zero, suc}
 use lib.ListN.{length}
 use Rattle.basics.specs.Sums.{sumOver}
-use Rattle.machine.specs.Cache.{Cache, start, run}
+use Rattle.machine.specs.Cache.{Revision, Cache, start, run}
 
 -- each of the ways 0 .. n - 1, drawn before each of the sequences
 abbrev pub withEach : ℕ → List (List ℕ) → List (List ℕ)
@@ -16,6 +16,10 @@ abbrev pub draws : ℕ → ℕ → List (List ℕ)
 draws N zero = [] ∷ []
 draws N (suc L) = withEach N (draws N L)
 
--- the choice sequences of the path p that make of Z sets of N empty ways a cache that passes the test, counted
-unfoldable pub count : (Cache → Bool) → ℕ → ℕ → List ℕ → ℕ
-count test Z N p = sumOver (λ ds. cond (test (run (start Z N) p ds)) 1 0) (draws N (length p))
+-- in revision v with N ways in a set, the choice sequences of the path p that make of the cache c one that passes the test, counted
+unfoldable pub countFrom : (Cache → Bool) → Revision → ℕ → Cache → List ℕ → ℕ
+countFrom test v N c p = sumOver (λ ds. cond (test (run v c p ds)) 1 0) (draws N (length p))
+
+-- from the start: Z sets of N empty ways
+unfoldable pub count : (Cache → Bool) → Revision → ℕ → ℕ → List ℕ → ℕ
+count test v Z N p = countFrom test v N (start Z N) p

@@ -15,7 +15,7 @@ pub mod Graphs
 -- The longest path
 pub mod Longest
 -- The promises
-pub mod Straight
 pub mod Weights
+pub mod Straight
 pub mod Cycles
 pub mod Promises

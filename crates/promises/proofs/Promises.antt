@@ -1,13 +1,15 @@
 -- The promises, together and with all that they assume: an input that is accepted, by the very definition that refuses it (its
--- outcome says 0). N is its ways in each set, L the accesses of the path, `whole` is 2^48.
+-- outcome says 0). N is its ways in each set, L the accesses of the path, `whole` is 2^48. The machine is of the
+-- revision and has the sets that the input names, and starts empty.
 use mathlib.Core.Path.{_≡_, refl, sym, ap, _∙_}
-use mathlib.Core.Bool.{true}
+use mathlib.Core.Bool.{true, false}
 use mathlib.Core.Logic.{⊎-elim}
 use mathlib.Core.List.{List}
 use Prim.Native.Nat.{ℕ, _+_, _*_, _^_, _≤_, _<_}
 use native.Mathlib.Nat.{le-refl, mul-le-mul-right}
 use native.Mathlib.Omega.{arith}
 use lib.ListN.{length}
+use Rattle.machine.specs.Cache.{start}
 use Rattle.machine.specs.Draws.{count}
 use Rattle.rules.specs.Answers.{outcomeSays, amountSays, timeSays}
 use Rattle.rules.specs.Input.{Input, nodes}
@@ -23,11 +25,10 @@ use Rattle.rules.proofs.Questions.{finished-whole, finished-is-table}
 use Rattle.rules.proofs.Cycles.{miss-above-hit, cycles-accepted, above-cycles-answered, cycle-budget-answered}
 use Rattle.rules.proofs.Longest.{longest-most, finished-within}
 use Rattle.promises.specs.Paths.{isPath, accessesOf, allTracked}
-use Rattle.promises.specs.Ends.{over, overCycles, endsWith, unitsWith}
-use Rattle.promises.proofs.Graphs.{path-covers}
+use Rattle.promises.specs.Ends.{revisionOf, over, overCycles, endsWith, unitsWith}
 use Rattle.promises.proofs.Longest.{no-longer, longest-straight}
-use Rattle.promises.proofs.Straight.{machine-start, machine-even, straight-high, straight-even, below-whole}
-use Rattle.promises.proofs.Weights.{oneWhere, one-most, overIs, over-rises, worth-above, count-over, atIs, worth-with, count-with}
+use Rattle.promises.proofs.Straight.{safe-start, machine-even, straight-high, straight-even, below-whole}
+use Rattle.promises.proofs.Weights.{oneWhere, one-most, overIs, worth-above, count-over, atIs, worth-with, count-with}
 use Rattle.promises.proofs.Cycles.{cycles-safe, cycles-tight}
 
 -- Safe, the first half of point 3. For every accepted graph, every path from first node to last and every budget B:
@@ -35,35 +36,34 @@ use Rattle.promises.proofs.Cycles.{cycles-safe, cycles-tight}
 -- What stands on the left does not depend on the tracked blocks. So where a graph is worked with several lists of them, each list's units bound
 -- it, the fewest of them too: the smallest of their budgets for an allowance is safe.
 pub safe : (i : Input) → outcomeSays (outcome i) .number ≡ 0 → (path : List ℕ) → isPath i path ≡ true → (B : ℕ)
-    → count (over B) (i .sets) (i .ways) (accessesOf i path) * whole ≤ above B (finished i .table) * i .ways ^ length (accessesOf i path)
-safe i ok path p B =
-    let c = accepted i ok in
-    let ahead = path-covers i c path p (oneWhere (overIs B)) (over-rises (i .ways) (i .sets) (i .tracked) B) in
-    let machine = machine-start i c (oneWhere (overIs B)) (over-rises (i .ways) (i .sets) (i .tracked) B) (accessesOf i path) in
-    rw (count-over (i .tracked) B (i .sets) (i .ways) (accessesOf i path), ← worth-above B (finished i .table)) (omega (arith, ahead, machine))
+    → count (over B) (revisionOf i) (i .sets) (i .ways) (accessesOf i path) * whole ≤ above B (finished i .table) * i .ways ^ length (accessesOf i path)
+unfolding count
+safe i ok = safe-start i (accepted i ok)
 
 -- Tight, the second half of point 3. On a straight run with every block tracked the excess is at most set aside × N^L.
 pub tight : (i : Input) → outcomeSays (outcome i) .number ≡ 0 → nodes i ≡ 1 → allTracked (i .tracked) (i .accesses) ≡ true → (B : ℕ)
     → above B (finished i .table) * i .ways ^ length (i .accesses)
-    ≤ count (over B) (i .sets) (i .ways) (i .accesses) * whole + outcomeSays (outcome i) .aside * i .ways ^ length (i .accesses)
+    ≤ count (over B) (revisionOf i) (i .sets) (i .ways) (i .accesses) * whole + outcomeSays (outcome i) .aside * i .ways ^ length (i .accesses)
+unfolding count
 tight i ok one all B =
     let c = accepted i ok in
-    rw (says-aside i ok, count-over (i .tracked) B (i .sets) (i .ways) (i .accesses))
+    rw (says-aside i ok, count-over (revisionOf i) (i .tracked) B (i .ways) (start (i .sets) (i .ways)) (i .accesses))
     (⊎-elim
     (λ e. rw e (omega (arith, mul-le-mul-right (i .ways ^ length (i .accesses)) (below-whole i ok B))))
     (λ h. omega (arith, rw (worth-above B (finished i .table)) at h, machine-even i c all (oneWhere (overIs B))))
     (straight-high i c one (oneWhere (overIs B)) (one-most (overIs B))))
 
--- Exact, point 2. On a straight run with every block tracked and nothing set aside, for each contents C and miss count m:
--- units × N^L = 2^48 × the number of choice sequences ending there.
+-- Exact, point 2. On a straight run with every block tracked and nothing set aside, for each contents C and miss
+-- count m, over all filled numbers: units × N^L = 2^48 × the number of choice sequences ending there.
 pub exact : (i : Input) → outcomeSays (outcome i) .number ≡ 0 → nodes i ≡ 1 → allTracked (i .tracked) (i .accesses) ≡ true
     → outcomeSays (outcome i) .aside ≡ 0 → (C m : ℕ)
     → unitsWith C m (finished i .table) * i .ways ^ length (i .accesses)
-    ≡ whole * count (endsWith (i .tracked) C m) (i .sets) (i .ways) (i .accesses)
+    ≡ whole * count (endsWith (i .tracked) C m) (revisionOf i) (i .sets) (i .ways) (i .accesses)
+unfolding count
 exact i ok one all none C m =
     let c = accepted i ok in
     let table = straight-even i c one (oneWhere (atIs C m)) (sym (says-aside i ok) ∙ none) in
-    rw (count-with (i .tracked) C m (i .sets) (i .ways) (i .accesses), ← worth-with C m (finished i .table))
+    rw (count-with (revisionOf i) (i .tracked) C m (i .ways) (start (i .sets) (i .ways)) (i .accesses), ← worth-with C m (finished i .table))
     (omega (arith, table, machine-even i c all (oneWhere (atIs C m))))
 
 -- Whole. Units always total 2^48, and the finished table is a table by section 4, so that the questions accept it.
@@ -76,25 +76,29 @@ whole-table i ok = (finished-whole i ok, finished-is-table i ok)
 -- (choice sequences that take more cycles than B) × 2^48 ≤ (units above B in cycles) × N^(accesses of the path).
 pub safe-cycles : (i : Input) → outcomeSays (outcome i) .number ≡ 0 → (L : ℕ) → L ≡ longest i → (path : List ℕ) → isPath i path ≡ true
     → (k : ℕ) → k < length cores → (B : ℕ)
-    → count (overCycles (coreAt k) (length (accessesOf i path)) B) (i .sets) (i .ways) (accessesOf i path) * whole
+    → count (overCycles (coreAt k) (length (accessesOf i path)) B) (revisionOf i) (i .sets) (i .ways) (accessesOf i path) * whole
     ≤ aboveCycles (coreAt k) L B (finished i .table) * i .ways ^ length (accessesOf i path)
+unfolding count
 safe-cycles i ok L e path p k known =
     let c = accepted i ok in
-    cycles-safe (coreAt k) (miss-above-hit k known) L (i .sets) (i .ways) (accessesOf i path) (rw e (no-longer i c path p))
-    (finished i .table) (finished-whole i ok) (rw e (finished-within i c)) (safe i ok path p)
+    cycles-safe (coreAt k) (miss-above-hit k known) (revisionOf i) L (i .ways) (start (i .sets) (i .ways)) refl (accessesOf i path)
+    (rw e (no-longer i c path p)) (finished i .table) (finished-whole i ok) (rw e (finished-within i c)) (safe i ok path p)
 
--- Tight in cycles, the second half of point 3. On a straight run with every block tracked the excess is at most set aside × N^L.
+-- Tight in cycles, the second half of point 3. On a straight run with every block tracked the excess is at most set
+-- aside × N^L.
 pub tight-cycles : (i : Input) → outcomeSays (outcome i) .number ≡ 0 → nodes i ≡ 1 → allTracked (i .tracked) (i .accesses) ≡ true
     → (L : ℕ) → L ≡ longest i → (k : ℕ) → k < length cores → (B : ℕ)
     → aboveCycles (coreAt k) L B (finished i .table) * i .ways ^ length (i .accesses)
-    ≤ count (overCycles (coreAt k) (length (i .accesses)) B) (i .sets) (i .ways) (i .accesses) * whole
+    ≤ count (overCycles (coreAt k) (length (i .accesses)) B) (revisionOf i) (i .sets) (i .ways) (i .accesses) * whole
     + outcomeSays (outcome i) .aside * i .ways ^ length (i .accesses)
+unfolding count
 tight-cycles i ok one all L e k known =
     let c = accepted i ok in
     let straight = longest-straight i c one in
     rw (e ∙ straight)
-    (cycles-tight (coreAt k) (miss-above-hit k known) (length (i .accesses)) (i .sets) (i .ways) (i .accesses) (le-refl (length (i .accesses)))
-    (finished i .table) (finished-whole i ok) (rw (← straight) (finished-within i c)) (outcomeSays (outcome i) .aside) (tight i ok one all))
+    (cycles-tight (coreAt k) (miss-above-hit k known) (revisionOf i) (length (i .accesses)) (i .ways) (start (i .sets) (i .ways)) refl (i .accesses)
+    (le-refl (length (i .accesses))) (finished i .table) (finished-whole i ok) (rw (← straight) (finished-within i c)) (outcomeSays (outcome i) .aside)
+    (tight i ok one all))
 
 -- Asked in cycles. The questions in cycles accept the finished table with its longest path, for every core, and say these very units and
 -- the smallest cycle budget for u of them.

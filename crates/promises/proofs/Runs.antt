@@ -8,17 +8,18 @@ use native.Mathlib.Nat.{le-trans, le-of-eq, mul-le-mul-left, pow-zero, pow-succ'
 use native.Mathlib.Omega.{arith}
 use lib.ListN.{length}
 use Rattle.rules.specs.declared.Target.{Target}
+use Rattle.rules.specs.declared.Filled.{Filled}
 use Rattle.rules.specs.declared.Last.{Last}
 use Rattle.rules.specs.declared.Last.the-variants.{Block as block}
 use Rattle.rules.specs.Units.{whole, more}
-use Rattle.rules.specs.Contents.{with, targetOf}
+use Rattle.rules.specs.Contents.{targetOf}
 use Rattle.rules.specs.Table.{total, Work}
 use Rattle.rules.specs.Step.{access, accessAside}
 use Rattle.rules.specs.Run.{advance, run}
 use Rattle.rules.specs.Shape.{Every, Aimed, Room, Shaped, Table}
 use Rattle.rules.proofs.Splitting.{more-stops, more-cases}
-use Rattle.rules.proofs.Sets.{aimed, room-alone}
-use Rattle.rules.proofs.Table.{worth}
+use Rattle.rules.proofs.Sets.{aimed}
+use Rattle.rules.proofs.Table.{Weight, worth}
 use Rattle.rules.proofs.Step.{ahead, access-shaped, access-total}
 use Rattle.rules.proofs.Run.{table-fits, table-advance}
 use Rattle.promises.proofs.Value.{value, Rises, value-rises, value-most, targetsOf, all-aimed, length-targets}
@@ -27,7 +28,7 @@ use Rattle.promises.proofs.Folds.{aside-none, Kept, kept-folded}
 
 -- ---- one access with its folds
 
-module _ (N Z : ℕ) (ts : List ℕ) (K M : ℕ) (x : Target) (some : 0 < N) (aim : Aimed Z ts x) (w : Work) (t : Table N Z ts K M (w .table)) where
+module _ (N Z : ℕ) (ts : List ℕ) (K M : ℕ) (x : Target) (some : 0 < N) (few : N ≤ 16) (aim : Aimed Z ts x) (w : Work) (t : Table N Z ts K M (w .table)) where
   -- after the access, before the folds
   abbrev stepped : Work
   stepped = record { table = access N x (w .table); aside = more (w .aside) (accessAside N x (w .table)) }
@@ -41,19 +42,19 @@ module _ (N Z : ℕ) (ts : List ℕ) (K M : ℕ) (x : Target) (some : 0 < N) (ai
 
   after : Every (Shaped N Z ts (suc M)) (access N x (w .table)) × (total (access N x (w .table)) ≤ whole)
   after = (
-    access-shaped N Z ts M x some aim (w .table) (t .shaped),
-    le-trans (le-of-eq (access-total N x some (w .table) (table-fits N Z ts K M (w .table) t x aim) full)) full,
+    access-shaped N Z ts M x some few aim (w .table) (t .shaped),
+    le-trans (le-of-eq (access-total N x some (w .table) (table-fits N Z ts K M (w .table) t few x aim) full)) full,
   )
 
-  pub advance-low : (f : ℕ → ℕ → ℕ) → Rises N Z ts f → worth (ahead N x f) (w .table) ≤ N * worth f (advance N K x w .table)
+  pub advance-low : (f : Weight) → Rises N Z ts f → worth (ahead N x f) (w .table) ≤ N * worth f (advance N K x w .table)
   advance-low f rises =
-      le-trans (access-low N Z ts M x aim some (w .table) (t .shaped) full f rises) (mul-le-mul-left N (kept .low f rises after))
+      le-trans (access-low N Z ts M x aim some few (w .table) (t .shaped) full f rises) (mul-le-mul-left N (kept .low f rises after))
 
   pub advance-stopped : w .aside ≡ whole → advance N K x w .aside ≡ whole
   advance-stopped e = kept .stopped (more-stops (w .aside) (accessAside N x (w .table)) (omega arith))
 
   -- unless the count has stopped
-  pub advance-high : (f : ℕ → ℕ → ℕ) (B : ℕ) → ((C m : ℕ) → Room N Z ts C → f C m ≤ B)
+  pub advance-high : (f : Weight) (B : ℕ) → ((C m : ℕ) (F : Filled) → Room N Z ts C F → f C m F ≤ B)
       → (advance N K x w .aside ≡ whole)
       ⊎ (N * worth f (advance N K x w .table) + N * (w .aside * B) ≤ worth (ahead N x f) (w .table) + N * (advance N K x w .aside * B))
   advance-high f B most = go (more-cases (w .aside) (accessAside N x (w .table))) (kept .high f B most after)
@@ -71,19 +72,22 @@ module _ (N Z : ℕ) (ts : List ℕ) (K M : ℕ) (x : Target) (some : 0 < N) (ai
             arith,
             mul-le-mul-left N h,
             ap (λ (a : ℕ). N * (a * B)) e,
-            access-high N Z ts M x aim some (w .table) (t .shaped) full f B (λ m. most (with 0 (x .place)) m (room-alone N Z ts x aim some)),
+            access-high N Z ts M x aim some few (w .table) (t .shaped) full f B most,
           ))
 
   pub advance-even : advance N K x w .aside ≡ 0
-      → (w .aside ≡ 0) × ((f : ℕ → ℕ → ℕ) → N * worth f (advance N K x w .table) ≡ worth (ahead N x f) (w .table))
+      → (w .aside ≡ 0) × ((f : Weight) → N * worth f (advance N K x w .table) ≡ worth (ahead N x f) (w .table))
   advance-even e =
       let (p, same) = kept .even after e in
       let (q, none) = aside-none (w .aside) (accessAside N x (w .table)) p in
-      (q, λ f. ap (N *_) (same f) ∙ access-even N Z ts M x aim some (w .table) (t .shaped) full f none)
+      (q, λ f. ap (N *_) (same f) ∙ access-even N Z ts M x aim some few (w .table) (t .shaped) full f none)
 
 -- ---- a run
 
-module _ (N Z K : ℕ) (ts : List ℕ) (some : 0 < N) (room : 0 < K) where
+module _ (N Z K : ℕ) (ts : List ℕ) (some : 0 < N) (few : N ≤ 16) (sets : 0 < Z) (few-sets : Z ≤ 16) (room : 0 < K) where
+  aim : (l : Last) (b : ℕ) → Aimed Z ts (targetOf Z ts l b)
+  aim l b = aimed Z ts sets few-sets l b
+
   -- what the accesses to bs are after, and the run over them, where l was accessed directly before
   abbrev to : Last → List ℕ → List Target
   to l bs = targetsOf Z ts l bs
@@ -92,19 +96,19 @@ module _ (N Z K : ℕ) (ts : List ℕ) (some : 0 < N) (room : 0 < K) where
   ran l bs w = run N Z K ts l bs w
 
   next : (M : ℕ) (l : Last) (b : ℕ) (w : Work) → Table N Z ts K M (w .table) → Table N Z ts K (suc M) (advance N K (targetOf Z ts l b) w .table)
-  next M l b w t = table-advance N Z ts K some room M (targetOf Z ts l b) w (aimed Z ts l b) t
+  next M l b w t = table-advance N Z ts K some few room M (targetOf Z ts l b) w (aim l b) t
 
-  pub run-low : (F : ℕ → ℕ → ℕ) → Rises N Z ts F → (M : ℕ) (l : Last) (bs : List ℕ) (w : Work) → Table N Z ts K M (w .table)
-      → worth (value F N (to l bs)) (w .table) ≤ N ^ length bs * worth F (ran l bs w .table)
+  pub run-low : (W : Weight) → Rises N Z ts W → (M : ℕ) (l : Last) (bs : List ℕ) (w : Work) → Table N Z ts K M (w .table)
+      → worth (value W N (to l bs)) (w .table) ≤ N ^ length bs * worth W (ran l bs w .table)
   unfolding run value
-  run-low F rises M l [] w t = rw (pow-zero N) (omega arith)
-  run-low F rises M l (b ∷ bs) w t =
+  run-low W rises M l [] w t = rw (pow-zero N) (omega arith)
+  run-low W rises M l (b ∷ bs) w t =
       rw (pow-succ' N (length bs))
       (omega (
         arith,
-        advance-low N Z ts K M (targetOf Z ts l b) some (aimed Z ts l b) w t (value F N (to (block b) bs))
-            (value-rises N Z ts F rises (to (block b) bs) (all-aimed Z ts (block b) bs)),
-        mul-le-mul-left N (run-low F rises (suc M) (block b) bs (advance N K (targetOf Z ts l b) w) (next M l b w t)),
+        advance-low N Z ts K M (targetOf Z ts l b) some few (aim l b) w t (value W N (to (block b) bs))
+            (value-rises N Z ts few W rises (to (block b) bs) (all-aimed Z ts sets few-sets (block b) bs)),
+        mul-le-mul-left N (run-low W rises (suc M) (block b) bs (advance N K (targetOf Z ts l b) w) (next M l b w t)),
       ))
 
   run-stopped : (M : ℕ) (l : Last) (bs : List ℕ) (w : Work) → Table N Z ts K M (w .table) → w .aside ≡ whole → ran l bs w .aside ≡ whole
@@ -112,45 +116,45 @@ module _ (N Z K : ℕ) (ts : List ℕ) (some : 0 < N) (room : 0 < K) where
   run-stopped M l [] w t e = e
   run-stopped M l (b ∷ bs) w t e =
       run-stopped (suc M) (block b) bs (advance N K (targetOf Z ts l b) w) (next M l b w t)
-      (advance-stopped N Z ts K M (targetOf Z ts l b) some (aimed Z ts l b) w t e)
+      (advance-stopped N Z ts K M (targetOf Z ts l b) some few (aim l b) w t e)
 
-  pub run-high : (F : ℕ → ℕ → ℕ) → ((C m : ℕ) → F C m ≤ 1) → (M : ℕ) (l : Last) (bs : List ℕ) (w : Work) → Table N Z ts K M (w .table)
+  pub run-high : (W : Weight) → ((C m : ℕ) (F : Filled) → W C m F ≤ 1) → (M : ℕ) (l : Last) (bs : List ℕ) (w : Work) → Table N Z ts K M (w .table)
       → (ran l bs w .aside ≡ whole)
-      ⊎ (N ^ length bs * worth F (ran l bs w .table) + w .aside * N ^ length bs
-      ≤ worth (value F N (to l bs)) (w .table) + ran l bs w .aside * N ^ length bs)
+      ⊎ (N ^ length bs * worth W (ran l bs w .table) + w .aside * N ^ length bs
+      ≤ worth (value W N (to l bs)) (w .table) + ran l bs w .aside * N ^ length bs)
   unfolding run value
-  run-high F most M l [] w t = inr (rw (pow-zero N) (omega arith))
-  run-high F most M l (b ∷ bs) w t =
-      go (advance-high N Z ts K M (targetOf Z ts l b) some (aimed Z ts l b) w t (value F N (to (block b) bs)) (N ^ length bs) top)
-      (run-high F most (suc M) (block b) bs v (next M l b w t))
+  run-high W most M l [] w t = inr (rw (pow-zero N) (omega arith))
+  run-high W most M l (b ∷ bs) w t =
+      go (advance-high N Z ts K M (targetOf Z ts l b) some few (aim l b) w t (value W N (to (block b) bs)) (N ^ length bs) top)
+      (run-high W most (suc M) (block b) bs v (next M l b w t))
     where
       v : Work
       v = advance N K (targetOf Z ts l b) w
 
-      top : (C m : ℕ) → Room N Z ts C → value F N (to (block b) bs) C m ≤ N ^ length bs
-      top C m h = rw (length-targets Z ts (block b) bs) at (value-most N Z ts F most (to (block b) bs) (all-aimed Z ts (block b) bs) C m h)
+      top : (C m : ℕ) (F : Filled) → Room N Z ts C F → value W N (to (block b) bs) C m F ≤ N ^ length bs
+      top C m F h = rw (length-targets Z ts (block b) bs) at (value-most N Z ts few W most (to (block b) bs) (all-aimed Z ts sets few-sets (block b) bs) C m F h)
 
       z : Work
       z = ran (block b) bs v
 
       go : (v .aside ≡ whole)
-          ⊎ (N * worth (value F N (to (block b) bs)) (v .table) + N * (w .aside * N ^ length bs)
-          ≤ worth (value F N (to l (b ∷ bs))) (w .table) + N * (v .aside * N ^ length bs))
+          ⊎ (N * worth (value W N (to (block b) bs)) (v .table) + N * (w .aside * N ^ length bs)
+          ≤ worth (value W N (to l (b ∷ bs))) (w .table) + N * (v .aside * N ^ length bs))
           → (z .aside ≡ whole)
-          ⊎ (N ^ length bs * worth F (z .table) + v .aside * N ^ length bs ≤ worth (value F N (to (block b) bs)) (v .table) + z .aside * N ^ length bs)
+          ⊎ (N ^ length bs * worth W (z .table) + v .aside * N ^ length bs ≤ worth (value W N (to (block b) bs)) (v .table) + z .aside * N ^ length bs)
           → (z .aside ≡ whole)
-          ⊎ (N ^ suc (length bs) * worth F (z .table) + w .aside * N ^ suc (length bs)
-          ≤ worth (value F N (to l (b ∷ bs))) (w .table) + z .aside * N ^ suc (length bs))
+          ⊎ (N ^ suc (length bs) * worth W (z .table) + w .aside * N ^ suc (length bs)
+          ≤ worth (value W N (to l (b ∷ bs))) (w .table) + z .aside * N ^ suc (length bs))
       go (inl e) h = inl (run-stopped (suc M) (block b) bs v (next M l b w t) e)
       go (inr g) (inl h) = inl h
       go (inr g) (inr h) = inr (rw (pow-succ' N (length bs)) (omega (arith, g, mul-le-mul-left N h)))
 
-  pub run-even : (F : ℕ → ℕ → ℕ) (M : ℕ) (l : Last) (bs : List ℕ) (w : Work) → Table N Z ts K M (w .table) → ran l bs w .aside ≡ 0
-      → (w .aside ≡ 0) × (N ^ length bs * worth F (ran l bs w .table) ≡ worth (value F N (to l bs)) (w .table))
+  pub run-even : (W : Weight) (M : ℕ) (l : Last) (bs : List ℕ) (w : Work) → Table N Z ts K M (w .table) → ran l bs w .aside ≡ 0
+      → (w .aside ≡ 0) × (N ^ length bs * worth W (ran l bs w .table) ≡ worth (value W N (to l bs)) (w .table))
   unfolding run value
-  run-even F M l [] w t e = (e, rw (pow-zero N) (omega arith))
-  run-even F M l (b ∷ bs) w t e =
+  run-even W M l [] w t e = (e, rw (pow-zero N) (omega arith))
+  run-even W M l (b ∷ bs) w t e =
       let v = advance N K (targetOf Z ts l b) w in
-      let (p, rest) = run-even F (suc M) (block b) bs v (next M l b w t) e in
-      let (q, here) = advance-even N Z ts K M (targetOf Z ts l b) some (aimed Z ts l b) w t p in
-      (q, rw (pow-succ' N (length bs)) (omega (arith, here (value F N (to (block b) bs)), ap (N *_) rest)))
+      let (p, rest) = run-even W (suc M) (block b) bs v (next M l b w t) e in
+      let (q, here) = advance-even N Z ts K M (targetOf Z ts l b) some few (aim l b) w t p in
+      (q, rw (pow-succ' N (length bs)) (omega (arith, here (value W N (to (block b) bs)), ap (N *_) rest)))

@@ -1,13 +1,15 @@
--- The machine from the start, along the accesses of an accepted input, and the finished table of a straight run.
-use mathlib.Core.Path.{_≡_, sym, ap, _∙_}
-use mathlib.Core.Bool.{true, true≢false}
+-- The machine, from the start, along the accesses of an accepted input, and the finished table of a straight run.
+use mathlib.Core.Path.{_≡_, refl, sym, ap, ap₂, _∙_}
+use mathlib.Core.Bool.{Bool, true, false, cond, true≢false}
 use mathlib.Core.Logic.{_⊎_, inl, inr}
 use mathlib.Core.List.{List}
-use Prim.Native.Nat.{ℕ, _+_, _*_, _^_, _≤_, zero-le}
+use Prim.Native.Nat.{ℕ, _+_, _*_, _^_, _≤_}
 use native.Mathlib.Nat.{le-trans, le-of-eq}
 use native.Mathlib.Omega.{arith}
-use lib.ListN.{length}
-use Rattle.machine.specs.Cache.{start}
+use lib.Dec.{eqb}
+use lib.ListN.{length, length-replicate}
+use Rattle.machine.specs.Cache.{empty, Cache, Revision, first, second, start, Built}
+use Rattle.machine.specs.Draws.{countFrom}
 use Rattle.machine.proofs.Draws.{total}
 use Rattle.machine.proofs.Ways.{built-start}
 use Rattle.rules.specs.Answers.{outcomeSays}
@@ -17,76 +19,124 @@ use Rattle.rules.specs.Contents.{places}
 use Rattle.rules.specs.Input.{Input, nodes}
 use Rattle.rules.specs.Table.{begin, Work}
 use Rattle.rules.specs.Run.{run}
-use Rattle.rules.specs.Graph.{finished}
+use Rattle.rules.specs.Graph.{atStart, finished}
+use Rattle.rules.specs.declared.Filled.{Filled}
+use Rattle.rules.specs.Filling.{filledAt, evenly}
 use Rattle.rules.specs.Questions.{above}
 use Rattle.rules.specs.Refusals.{outcome}
 use Rattle.rules.proofs.Contents.{sixteen-places}
 use Rattle.rules.proofs.Lookup.{once-at}
-use Rattle.rules.proofs.Table.{worth}
+use Rattle.rules.proofs.Filling.{Fewer}
+use Rattle.rules.proofs.Table.{Weight, worth}
+use Rattle.rules.proofs.Graph.{start-most}
 use Rattle.rules.proofs.Refusals.{Checked}
 use Rattle.rules.proofs.Run.{table-begin}
 use Rattle.rules.proofs.Questions.{above-most, finished-whole}
-use Rattle.promises.specs.Paths.{allTracked}
-use Rattle.promises.proofs.Seen.{contents-start}
+use Rattle.promises.specs.Paths.{isPath, accessesOf, allTracked}
+use Rattle.promises.specs.Ends.{revisionOf, over}
+use Rattle.promises.proofs.Seen.{contents-start, filledOf, filled-start, none-filled}
 use Rattle.promises.proofs.Value.{value, Rises, sub-zero, targetsOf}
 use Rattle.promises.proofs.Safe.{seen, machine-below}
 use Rattle.promises.proofs.Exact.{machine-equal}
 use Rattle.promises.proofs.Runs.{run-high, run-even}
-use Rattle.promises.proofs.Graphs.{straight}
+use Rattle.promises.proofs.Graphs.{path-covers, straight}
+use Rattle.promises.proofs.Weights.{oneWhere, overIs, over-rises, worth-above, count-over}
 
 module _ (i : Input) (ok : Checked i) where
   abbrev N : ℕ
   N = i .ways
 
-  abbrev ahead : (ℕ → ℕ → ℕ) → List ℕ → ℕ
-  ahead F p = value F N (targetsOf (i .sets) (i .tracked) unknown p) 0 0
+  abbrev v : Revision
+  v = revisionOf i
+
+  abbrev ahead : Weight → List ℕ → ℕ
+  ahead W p = value W N (targetsOf (i .sets) (i .tracked) unknown p) 0 0 (atStart i)
 
   few : length (i .tracked) ≤ places
   few = rw sixteen-places (ok .few-tracked)
 
   -- ---- the machine
 
-  pub machine-start : (F : ℕ → ℕ → ℕ) → Rises N (i .sets) (i .tracked) F → (p : List ℕ) → total (seen (i .tracked) F) N (start (i .sets) N) p ≤ ahead F p
-  machine-start F rises p =
-      machine-below (i .tracked) (once-at (i .tracked) (ok .distinct)) few F (i .sets) N (ok .some-sets) rises p (start (i .sets) N) 0 0 unknown (built-start (i .sets) N)
-      (sub-zero _) (λ b e. absurd (true≢false (sym e))) zero-le
+  -- from any cache of these sets and ways, of which no more ways may be filled than the rules say
+  module _ (c : Cache) (built : Built (i .sets) N c) (fresh : c .misses ≡ 0) where
+    machine-from : Fewer (filledOf v c) (atStart i) → (W : Weight) → Rises N (i .sets) (i .tracked) W → (p : List ℕ)
+        → total (seen v (i .tracked) W) v N c p ≤ ahead W p
+    machine-from fewer W rises p =
+        machine-below (i .tracked) (once-at (i .tracked) (ok .distinct)) few W v (i .sets) N (ok .some-sets) (ok .few-sets) (ok .few-ways) rises p c 0 0
+        (atStart i) unknown built (sub-zero _) fewer (λ b e. absurd (true≢false (sym e))) (le-of-eq fresh)
 
-  pub machine-even : allTracked (i .tracked) (i .accesses) ≡ true → (F : ℕ → ℕ → ℕ)
-      → total (seen (i .tracked) F) N (start (i .sets) N) (i .accesses) ≡ ahead F (i .accesses)
-  machine-even all F =
-      machine-equal (i .tracked) (once-at (i .tracked) (ok .distinct)) few (i .sets) N (ok .some-sets) F (i .accesses) (start (i .sets) N) unknown (built-start (i .sets) N) all
-      ∙ ap (λ (C : ℕ). value F N (targetsOf (i .sets) (i .tracked) unknown (i .accesses)) C 0) (contents-start (i .tracked) (i .sets) N)
+  -- at the start in the second revision no way is filled, in the first any may be
+  start-filled : filledOf v (start (i .sets) N) ≡ evenly (i .sets) (cond (eqb (i .revision) 2) 0 N)
+  start-filled = go (eqb (i .revision) 2)
+    where
+      go : (b : Bool) → filledOf (cond b second first) (start (i .sets) N) ≡ evenly (i .sets) (cond b 0 N)
+      go true = filled-start second (i .sets) N ∙ ap (evenly (i .sets)) (none-filled N)
+      go false = filled-start first (i .sets) N ∙ ap (evenly (i .sets)) (length-replicate N empty)
+
+  -- which the rules say too
+  as-ruled : filledOf v (start (i .sets) N) ≡ atStart i
+  unfolding atStart
+  as-ruled = start-filled
+
+  machine-start : (W : Weight) → Rises N (i .sets) (i .tracked) W → (p : List ℕ) → total (seen v (i .tracked) W) v N (start (i .sets) N) p ≤ ahead W p
+  machine-start = machine-from (start (i .sets) N) (built-start (i .sets) N) refl (λ j. le-of-eq (ap (λ (F : Filled). filledAt F j) as-ruled))
+
+  pub machine-even : allTracked (i .tracked) (i .accesses) ≡ true → (W : Weight)
+      → total (seen v (i .tracked) W) v N (start (i .sets) N) (i .accesses) ≡ ahead W (i .accesses)
+  machine-even all W =
+      machine-equal (i .tracked) (once-at (i .tracked) (ok .distinct)) few (i .sets) N (ok .some-sets) (ok .few-sets) (ok .few-ways) W v (i .accesses) (start (i .sets) N) unknown (built-start (i .sets) N) all
+      ∙ ap₂ (λ (C : ℕ) (F : Filled). value W N (targetsOf (i .sets) (i .tracked) unknown (i .accesses)) C 0 F)
+      (contents-start (i .tracked) (i .sets) N) as-ruled
+
+  -- ---- so along every path
+
+  -- from a cache where the machine's sum is at most the value of the start, for every weight that rises
+  safe-from : (c : Cache)
+      → ((W : Weight) → Rises N (i .sets) (i .tracked) W → (p : List ℕ) → total (seen v (i .tracked) W) v N c p ≤ ahead W p)
+      → (path : List ℕ) → isPath i path ≡ true → (B : ℕ)
+      → countFrom (over B) v N c (accessesOf i path) * whole ≤ above B (finished i .table) * N ^ length (accessesOf i path)
+  safe-from c machine path p B =
+      rw (count-over v (i .tracked) B N c (accessesOf i path), ← worth-above B (finished i .table))
+      (omega (
+        arith,
+        path-covers i ok path p (oneWhere (overIs B)) (over-rises N (i .sets) (i .tracked) B),
+        machine (oneWhere (overIs B)) (over-rises N (i .sets) (i .tracked) B) (accessesOf i path),
+      ))
+
+  pub safe-start : (path : List ℕ) → isPath i path ≡ true → (B : ℕ)
+      → countFrom (over B) v N (start (i .sets) N) (accessesOf i path) * whole ≤ above B (finished i .table) * N ^ length (accessesOf i path)
+  safe-start = safe-from (start (i .sets) N) machine-start
 
   -- ---- a straight run
 
   module _ (one : nodes i ≡ 1) where
     -- as many units as the draws ahead, and those set aside; or the count has stopped
-    pub straight-high : (F : ℕ → ℕ → ℕ) → ((C m : ℕ) → F C m ≤ 1)
+    pub straight-high : (W : Weight) → ((C m : ℕ) (F : Filled) → W C m F ≤ 1)
         → (finished i .aside ≡ whole)
-        ⊎ (worth F (finished i .table) * N ^ length (i .accesses) ≤ whole * ahead F (i .accesses) + finished i .aside * N ^ length (i .accesses))
-    straight-high F most = rw (straight i ok one) (go (run-high N (i .sets) (i .limit) (i .tracked) (ok .some-ways) (ok .some-states) F most 0 unknown (i .accesses) begun
-        (table-begin N (i .sets) (i .tracked) (i .limit) (ok .some-ways) (ok .some-states))))
+        ⊎ (worth W (finished i .table) * N ^ length (i .accesses) ≤ whole * ahead W (i .accesses) + finished i .aside * N ^ length (i .accesses))
+    straight-high W most = rw (straight i ok one) (go (run-high N (i .sets) (i .limit) (i .tracked) (ok .some-ways) (ok .few-ways) (ok .some-sets) (ok .few-sets) (ok .some-states) W most 0 unknown (i .accesses) begun
+        (table-begin N (i .sets) (i .tracked) (i .limit) (ok .some-ways) (ok .few-ways) (ok .some-states) (atStart i) (start-most i ok))))
       where
         begun : Work
-        begun = record { table = begin; aside = 0 }
+        begun = record { table = begin (atStart i); aside = 0 }
 
         v : Work
         v = run N (i .sets) (i .limit) (i .tracked) unknown (i .accesses) begun
 
         go : (v .aside ≡ whole)
-            ⊎ (N ^ length (i .accesses) * worth F (v .table) + 0 * N ^ length (i .accesses)
-            ≤ whole * ahead F (i .accesses) + 0 + v .aside * N ^ length (i .accesses))
+            ⊎ (N ^ length (i .accesses) * worth W (v .table) + 0 * N ^ length (i .accesses)
+            ≤ whole * ahead W (i .accesses) + 0 + v .aside * N ^ length (i .accesses))
             → (v .aside ≡ whole)
-            ⊎ (worth F (v .table) * N ^ length (i .accesses) ≤ whole * ahead F (i .accesses) + v .aside * N ^ length (i .accesses))
+            ⊎ (worth W (v .table) * N ^ length (i .accesses) ≤ whole * ahead W (i .accesses) + v .aside * N ^ length (i .accesses))
         go (inl e) = inl e
         go (inr h) = inr (omega arith)
 
-    pub straight-even : (F : ℕ → ℕ → ℕ) → finished i .aside ≡ 0
-        → worth F (finished i .table) * N ^ length (i .accesses) ≡ whole * ahead F (i .accesses)
-    straight-even F e = rw (straight i ok one) (omega (
+    pub straight-even : (W : Weight) → finished i .aside ≡ 0
+        → worth W (finished i .table) * N ^ length (i .accesses) ≡ whole * ahead W (i .accesses)
+    straight-even W e = rw (straight i ok one) (omega (
       arith,
-      run-even N (i .sets) (i .limit) (i .tracked) (ok .some-ways) (ok .some-states) F 0 unknown (i .accesses) (record { table = begin; aside = 0 })
-          (table-begin N (i .sets) (i .tracked) (i .limit) (ok .some-ways) (ok .some-states)) (rw (straight i ok one) at e) .1,
+      run-even N (i .sets) (i .limit) (i .tracked) (ok .some-ways) (ok .few-ways) (ok .some-sets) (ok .few-sets) (ok .some-states) W 0 unknown (i .accesses) (record { table = begin (atStart i); aside = 0 })
+          (table-begin N (i .sets) (i .tracked) (i .limit) (ok .some-ways) (ok .few-ways) (ok .some-states) (atStart i) (start-most i ok)) (rw (straight i ok one) at e) .1,
     ))
 
 -- no more units are above a budget than there are

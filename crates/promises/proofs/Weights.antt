@@ -10,23 +10,24 @@ use lib.Dec.{eqb, ltb}
 use borrow.Author.Tests.{ltb-true, ltb-false}
 use Rattle.basics.proofs.Sums.{part-most}
 use Rattle.basics.specs.Sums.{sumOver}
-use Rattle.machine.specs.Cache.{start}
-use Rattle.machine.specs.Draws.{count}
+use Rattle.machine.specs.Cache.{Revision, Cache}
+use Rattle.machine.specs.Draws.{countFrom}
 use Rattle.machine.proofs.Draws.{total}
 use Rattle.rules.specs.declared.State.{State}
 use Rattle.rules.specs.Table.{unitsOf}
 use Rattle.rules.specs.Questions.{above}
-use Rattle.rules.proofs.Table.{worth}
+use Rattle.rules.specs.declared.Filled.{Filled}
+use Rattle.rules.proofs.Table.{Weight, worth}
 use Rattle.promises.specs.Ends.{over, endsWith, unitsWith}
 use Rattle.promises.proofs.Value.{Rises}
 use Rattle.promises.proofs.Safe.{seen}
 
 -- 1 where the test passes
-abbrev pub oneWhere : (ℕ → ℕ → Bool) → ℕ → ℕ → ℕ
-oneWhere test C m = cond (test C m) 1 0
+abbrev pub oneWhere : (ℕ → ℕ → Bool) → Weight
+oneWhere test C m F = cond (test C m) 1 0
 
-pub one-most : (test : ℕ → ℕ → Bool) (C m : ℕ) → oneWhere test C m ≤ 1
-one-most test C m = part-most (test C m) 1
+pub one-most : (test : ℕ → ℕ → Bool) (C m : ℕ) (F : Filled) → oneWhere test C m F ≤ 1
+one-most test C m F = part-most (test C m) 1
 
 worth-one : (test : ℕ → ℕ → Bool) (T : List State) → worth (oneWhere test) T ≡ sumOver (λ s. cond (test (s .mask) (s .misses)) (unitsOf s) 0) T
 worth-one test [] = refl
@@ -42,7 +43,7 @@ abbrev pub overIs : ℕ → ℕ → ℕ → Bool
 overIs B C m = ltb B m
 
 pub over-rises : (N Z : ℕ) (ts : List ℕ) (B : ℕ) → Rises N Z ts (oneWhere (overIs B))
-over-rises N Z ts B C D m n s l small = go (ltb B n) (ltb B m) refl refl
+over-rises N Z ts B C D m n F G s l fewer small = go (ltb B n) (ltb B m) refl refl
   where
     go : (a b : Bool) → ltb B n ≡ a → ltb B m ≡ b → cond a 1 0 ≤ cond b 1 0
     go true true p q = le-refl 1
@@ -53,9 +54,10 @@ pub worth-above : (B : ℕ) (T : List State) → worth (oneWhere (overIs B)) T �
 unfolding above
 worth-above B T = worth-one (overIs B) T
 
-pub count-over : (ts : List ℕ) (B Z N : ℕ) (p : List ℕ) → count (over B) Z N p ≡ total (seen ts (oneWhere (overIs B))) N (start Z N) p
-unfolding count total
-count-over ts B Z N p = refl
+pub count-over : (v : Revision) (ts : List ℕ) (B N : ℕ) (c : Cache) (p : List ℕ)
+    → countFrom (over B) v N c p ≡ total (seen v ts (oneWhere (overIs B))) v N c p
+unfolding countFrom total
+count-over v ts B N c p = refl
 
 -- ---- at one contents and miss count
 
@@ -66,6 +68,7 @@ pub worth-with : (C m : ℕ) (T : List State) → worth (oneWhere (atIs C m)) T 
 unfolding unitsWith
 worth-with C m T = worth-one (atIs C m) T
 
-pub count-with : (ts : List ℕ) (C m Z N : ℕ) (p : List ℕ) → count (endsWith ts C m) Z N p ≡ total (seen ts (oneWhere (atIs C m))) N (start Z N) p
-unfolding count total
-count-with ts C m Z N p = refl
+pub count-with : (v : Revision) (ts : List ℕ) (C m N : ℕ) (c : Cache) (p : List ℕ)
+    → countFrom (endsWith ts C m) v N c p ≡ total (seen v ts (oneWhere (atIs C m))) v N c p
+unfolding countFrom total
+count-with v ts C m N c p = refl

@@ -4,12 +4,17 @@ use mathlib.Core.List.{List}
 use Prim.Native.Nat.{ℕ}
 use lib.Dec.{eqb, ltb}
 use Rattle.basics.specs.Sums.{sumOver}
-use Rattle.machine.specs.Cache.{Cache, inCache}
+use Rattle.machine.specs.Cache.{Cache, inCache, Revision, first, second}
 use Rattle.rules.specs.declared.State.{State}
 use Rattle.rules.specs.declared.Core.{Core}
 use Rattle.rules.specs.Contents.{maskOf}
+use Rattle.rules.specs.Input.{Input}
 use Rattle.rules.specs.Table.{unitsOf}
 use Rattle.rules.specs.Cycles.{cyclesOf}
+
+-- the revision that an input names
+abbrev pub revisionOf : Input → Revision
+revisionOf i = cond (eqb (i .revision) 2) second first
 
 -- the cache had more misses than the budget
 abbrev pub over : ℕ → Cache → Bool
@@ -28,6 +33,6 @@ contentsOf ts c = maskOf (inCache c) ts
 abbrev pub endsWith : List ℕ → ℕ → ℕ → Cache → Bool
 endsWith ts C m c = eqb (contentsOf ts c) C && eqb (c .misses) m
 
--- the units of a table at contents C and m misses
+-- the units of a table at contents C and m misses, over all filled numbers
 unfoldable pub unitsWith : ℕ → ℕ → List State → ℕ
 unitsWith C m T = sumOver (λ s. cond (eqb (s .mask) C && eqb (s .misses) m) (unitsOf s) 0) T

@@ -22,25 +22,25 @@ module _ (ws : List ℕ) (i : ℕ) where
   -- ---- the largest miss count
 
   module _ (most : ℕ) (rest : max most (largest (drop i (tableOf ws))) ≡ largest (tableOf ws)) where
-    pub largest-next : i < length ws / 3 → (s : State) → s ≡ stateAt (tableOf ws) i → (m : ℕ) → m ≡ max most (s .misses)
+    pub largest-next : i < length ws / 5 → (s : State) → s ≡ stateAt (tableOf ws) i → (m : ℕ) → m ≡ max most (s .misses)
         → max m (largest (drop (i + 1) (tableOf ws))) ≡ largest (tableOf ws)
     unfolding largest
     largest-next h s e m f =
         rw (f, e, max-assoc most (stateAt (tableOf ws) i .misses) (largest (drop (i + 1) (tableOf ws)))) (state-next (λ T. max most (largest T)) ws i (largest (tableOf ws)) rest h)
 
-    pub largest-end : length ws / 3 ≤ i → most ≡ largest (tableOf ws)
+    pub largest-end : length ws / 5 ≤ i → most ≡ largest (tableOf ws)
     unfolding largest
     largest-end h = sym (max-zero most) ∙ state-end (λ T. max most (largest T)) ws i (largest (tableOf ws)) rest h
 
   -- ---- the units above a budget
 
   module _ (B sum : ℕ) (rest : sum + above B (drop i (tableOf ws)) ≡ above B (tableOf ws)) where
-    pub above-next : i < length ws / 3 → (s : State) → s ≡ stateAt (tableOf ws) i → (u : ℕ) → u ≡ cond (ltb B (s .misses)) (unitsOf s) 0
+    pub above-next : i < length ws / 5 → (s : State) → s ≡ stateAt (tableOf ws) i → (u : ℕ) → u ≡ cond (ltb B (s .misses)) (unitsOf s) 0
         → sum + (u + above B (drop (i + 1) (tableOf ws))) ≡ above B (tableOf ws)
     unfolding above
     above-next h s e u f = rw (f, e) (state-next (λ T. sum + above B T) ws i (above B (tableOf ws)) rest h)
 
-    pub above-end : length ws / 3 ≤ i → sum ≡ above B (tableOf ws)
+    pub above-end : length ws / 5 ≤ i → sum ≡ above B (tableOf ws)
     unfolding above
     above-end h = omega (arith, state-end (λ T. sum + above B T) ws i (above B (tableOf ws)) rest h)
 

@@ -10,7 +10,7 @@ use lib.Seq.{take-suc, take-all}
 use Rattle.basics.proofs.Sums.{sum-append}
 use Rattle.rules.specs.declared.State.{State}
 use Rattle.rules.specs.Units.{whole}
-use Rattle.rules.specs.Table.{state, unitsOf, stateAt, total}
+use Rattle.rules.specs.Table.{unitsOf, noState, stateAt, total}
 use Rattle.rules.specs.Questions.{unitsAt, largest, countsBelow}
 use Rattle.rules.proofs.Questions.{misses-most, units-most, units-more, counts-at, counts-none, counts-more}
 use Rattle.words.specs.Tables.{tableOf}
@@ -24,10 +24,10 @@ total-take : (k : ℕ) (T : List State) → total (take k T) ≤ total T
 unfolding total
 total-take k T = omega (arith, sum-append unitsOf (take k T) (drop k T), ap total (take-append-drop k T))
 
-module _ (ws : List ℕ) (i : ℕ) (h : i < length ws / 3) (s : State) (e : s ≡ stateAt (tableOf ws) i) (n : ℕ) (ns : List ℕ)
+module _ (ws : List ℕ) (i : ℕ) (h : i < length ws / 5) (s : State) (e : s ≡ stateAt (tableOf ws) i) (n : ℕ) (ns : List ℕ)
     (so-far : ns ≡ countsBelow n (take i (tableOf ws))) where
   one-more : take (i + 1) (tableOf ws) ≡ take i (tableOf ws) ++ (s ∷ [])
-  one-more = rw (add-one i, e) (take-suc (tableOf ws) i (state 0 0 0) (omega (arith, length-tableOf ws)))
+  one-more = rw (add-one i, e) (take-suc (tableOf ws) i noState (omega (arith, length-tableOf ws)))
 
   module _ (long : largest (tableOf ws) < n) where
     pub has-place : s .misses < n
@@ -44,5 +44,5 @@ module _ (ws : List ℕ) (i : ℕ) (h : i < length ws / 3) (s : State) (e : s �
     counts-next ms f =
         f ∙ rw (so-far) (counts-more n (take i (tableOf ws)) s has-place) ∙ ap (countsBelow n) (sym one-more)
 
-pub counts-end : (ws : List ℕ) (i n : ℕ) (ns : List ℕ) → ns ≡ countsBelow n (take i (tableOf ws)) → length ws / 3 ≤ i → ns ≡ countsBelow n (tableOf ws)
+pub counts-end : (ws : List ℕ) (i n : ℕ) (ns : List ℕ) → ns ≡ countsBelow n (take i (tableOf ws)) → length ws / 5 ≤ i → ns ≡ countsBelow n (tableOf ws)
 counts-end ws i n ns so-far h = so-far ∙ ap (countsBelow n) (take-all i (tableOf ws) (omega (arith, length-tableOf ws)))

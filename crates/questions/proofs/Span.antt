@@ -16,19 +16,19 @@ use Rattle.questions.specs.Span.{spanOf}
 -- the first k states end at word e
 module _ (ws : List ℕ) (k e : ℕ) (ends : e ≡ spanOf (length ws) k) where
   pub span-within : e ≡ length (take e ws)
-  span-within = go (leb (length ws / 3) k) refl
+  span-within = go (leb (length ws / 5) k) refl
     where
-      go : (b : Bool) → leb (length ws / 3) k ≡ b → e ≡ length (take e ws)
+      go : (b : Bool) → leb (length ws / 5) k ≡ b → e ≡ length (take e ws)
       go true h = let all : e ≡ length ws = ends ∙ rw h in all ∙ sym (ap length (take-all e ws (le-of-eq (sym all))))
       go false h =
-          let some : e ≡ k * 3 = ends ∙ rw h in
-          sym (length-take-le e ws (omega (arith, leb-false (length ws / 3) k h)))
+          let some : e ≡ k * 5 = ends ∙ rw h in
+          sym (length-take-le e ws (omega (arith, leb-false (length ws / 5) k h)))
 
   pub span-table : tableOf (take e ws) ≡ take k (tableOf ws)
-  span-table = go (leb (length ws / 3) k) refl
+  span-table = go (leb (length ws / 5) k) refl
     where
-      go : (b : Bool) → leb (length ws / 3) k ≡ b → tableOf (take e ws) ≡ take k (tableOf ws)
+      go : (b : Bool) → leb (length ws / 5) k ≡ b → tableOf (take e ws) ≡ take k (tableOf ws)
       go true h =
           let all : e ≡ length ws = ends ∙ rw h in
-          ap tableOf (take-all e ws (le-of-eq (sym all))) ∙ sym (take-all k (tableOf ws) (omega (arith, length-tableOf ws, leb-true (length ws / 3) k h)))
-      go false h = let some : e ≡ k * 3 = ends ∙ rw h in rw some (table-take ws k)
+          ap tableOf (take-all e ws (le-of-eq (sym all))) ∙ sym (take-all k (tableOf ws) (omega (arith, length-tableOf ws, leb-true (length ws / 5) k h)))
+      go false h = let some : e ≡ k * 5 = ends ∙ rw h in rw some (table-take ws k)

@@ -5,4 +5,4 @@ use lib.Dec.{leb}
 
 -- where the first k states end, of n words; n where there are no more than k
 abbrev pub spanOf : ℕ → ℕ → ℕ
-spanOf n k = cond (leb (n / 3) k) n (k * 3)
+spanOf n k = cond (leb (n / 5) k) n (k * 5)

@@ -49,8 +49,8 @@ pub(crate) fn spread_of(words: &[u64], room: &mut [u64]) -> Count
 pub(crate) fn span(n: usize, states: usize) -> usize
     ensures { λ r. ⌜ r ≡ spanOf n states ⌝ }
 {
-    if n / 3 <= states {
+    if n / 5 <= states {
         return n;
     }
-    states * 3
+    states * 5
 }

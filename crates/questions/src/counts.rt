@@ -24,7 +24,7 @@ pub(crate) fn fill(words: &[u64], room: &mut [u64])
     ensures { λ _. ⌜ now (room .exit) ≡ countsBelow (length (now (room .entry))) (tableOf (now (words .entry))) ⌝ }
 {
     clear(room);
-    let n = words.len() / 3;
+    let n = words.len() / 5;
     let mut i: usize = 0;
     while i < n {
         let s = state_at(words, i);

@@ -13,7 +13,7 @@ ghost use Rattle.words.specs.Tables.{tableOf};
 pub(crate) fn largest(words: &[u64]) -> u64
     ensures { λ r. ⌜ r ≡ largestOf (tableOf (now (words .entry))) ⌝ }
 {
-    let n = words.len() / 3;
+    let n = words.len() / 5;
     let mut most: u64 = 0;
     let mut i: usize = 0;
     while i < n {
@@ -28,7 +28,7 @@ pub(crate) fn units_above(words: &[u64], budget: u64) -> u64
     requires { ⌜ total (tableOf (now words)) ≤ whole ⌝ }
     ensures { λ r. ⌜ r ≡ above budget (tableOf (now (words .entry))) ⌝ }
 {
-    let n = words.len() / 3;
+    let n = words.len() / 5;
     let mut sum: u64 = 0;
     let mut i: usize = 0;
     while i < n {

@@ -1,7 +1,7 @@
 // Whether the states in some words are a table.
 use crate::states::is_fitting;
-use crate::states::stands_before;
 use rules::Units;
+use rules::stands_before;
 use words::state_at;
 ghost use mathlib.Core.Path.{_≡_};
 ghost use lib.Dec.{eqb};
@@ -14,7 +14,7 @@ ghost use Rattle.words.specs.Tables.{tableOf};
 pub(crate) fn rising(words: &[u64]) -> bool
     ensures { λ r. ⌜ r ≡ risingOf (tableOf (now (words .entry))) ⌝ }
 {
-    let n = words.len() / 3;
+    let n = words.len() / 5;
     let mut i: usize = 0;
     while i + 1 < n {
         if stands_before(state_at(words, i), state_at(words, i + 1)) {
@@ -30,7 +30,7 @@ pub(crate) fn rising(words: &[u64]) -> bool
 pub(crate) fn all_fit(words: &[u64]) -> bool
     ensures { λ r. ⌜ r ≡ allFitting (tableOf (now (words .entry))) ⌝ }
 {
-    let n = words.len() / 3;
+    let n = words.len() / 5;
     let mut i: usize = 0;
     while i < n {
         if is_fitting(state_at(words, i)) {
@@ -46,7 +46,7 @@ pub(crate) fn all_fit(words: &[u64]) -> bool
 pub(crate) fn is_whole(words: &[u64]) -> bool
     ensures { λ r. ⌜ r ≡ eqb (total (tableOf (now (words .entry)))) whole ⌝ }
 {
-    let n = words.len() / 3;
+    let n = words.len() / 5;
     let whole = Units::WHOLE;
     let mut left = whole.0;
     let mut i: usize = 0;
@@ -65,7 +65,7 @@ pub(crate) fn is_whole(words: &[u64]) -> bool
 pub(crate) fn is_table(words: &[u64]) -> bool
     ensures { λ r. ⌜ r ≡ isTable (tableOf (now (words .entry))) ⌝ }
 {
-    let n = words.len() / 3;
+    let n = words.len() / 5;
     if n < 1 {
         return false;
     }

@@ -208,12 +208,16 @@ pub fn judge(
 {
     let bad_ways = outside(1, 16, cache.ways as u64);
     let bad_sets = !is_set_count(cache.sets);
+    let bad_revision = outside(1, 2, cache.revision as u64);
     let bad_limit = outside(1, 64, limit as u64);
     if bad_ways {
         return Verdict::Refused(Refusal::Ways);
     }
     if bad_sets {
         return Verdict::Refused(Refusal::Sets);
+    }
+    if bad_revision {
+        return Verdict::Refused(Refusal::Revision);
     }
     if bad_limit {
         return Verdict::Refused(Refusal::Limit);

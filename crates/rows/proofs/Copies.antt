@@ -34,10 +34,10 @@ module _ (h : Held) (s : State) where
   pub more-room : h .states ≤ 64 → record { states = h .states + 1; words = stored (h .words) (h .states) s } ≡ oneMore h s
   more-room l = rw (le-ltb 64 (h .states) l)
 
--- what is held: at most 65 states, in 195 words
+-- what is held: at most 65 states, in 325 words
 pub record Holds (h : Held) : Type 0 where
   pub few : h .states ≤ 65
-  pub room : length (h .words) ≡ 195
+  pub room : length (h .words) ≡ 325
 
 module _ (h : Held) (ok : Holds h) where
   held-length : length (statesOf h) ≡ h .states
@@ -65,7 +65,7 @@ more-held (s ∷ row) h ok = go (ltb 64 (h .states)) refl (more-held row (oneMor
         ∙ rw (next, one-more h ok s few) (ap (take 65) (append-assoc (statesOf h) (s ∷ []) row))
 
 first-states : (row : List State) → statesOf (copied row) ≡ take 65 row
-first-states row = more-held row nothingHeld (record { few = omega arith; room = length-replicate {A = ℕ} 195 0 })
+first-states row = more-held row nothingHeld (record { few = omega arith; room = length-replicate {A = ℕ} 325 0 })
 
 -- ---- what is asked of it
 

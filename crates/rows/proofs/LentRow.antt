@@ -33,7 +33,7 @@ use denote.Steps.{nothing}
 use denote.Struct.Laws as laws
 use denote.Triple.Bound.{Bound}
 use Rattle.rules.specs.declared.State.{State}
-use Rattle.rules.specs.Table.{state, stateAt}
+use Rattle.rules.specs.Table.{noState, stateAt}
 use Rattle.rules.proofs.State as the-state
 use Rattle.rules.proofs.State.Laws as state-laws
 use Rattle.rows.specs.declared.row.Held.{Held}
@@ -92,9 +92,9 @@ lends 𝓤 H A W κ Rs s a vs =
     use1 W (‵ (RowT κ .own s (slice-vals s)) ⊛ ‵ (RowT κ .own s (slice-vals s))) (shr-slice-copy 𝓤 H A W (named 0) κ StateT .twice s (slice-vals s)) $
     split ! $ frame ! $ fjoin ! $ done !
 
--- state i lies at i * 24, which does not wrap
-pub fits·24 : (n i : ℕ) → Room StateT n → i < n → i * 24 < 2 ^ 64
-fits·24 n i room l = lt-trans (lt-trans (mul-lt-mul-of-pos-right l (lit< tt)) (room .1)) (lit< tt)
+-- state i lies at i * 40, which does not wrap
+pub fits·40 : (n i : ℕ) → Room StateT n → i < n → i * 40 < 2 ^ 64
+fits·40 n i room l = lt-trans (lt-trans (mul-lt-mul-of-pos-right l (lit< tt)) (room .1)) (lit< tt)
 
 -- what it owns, the others, and the open borrow
 abbrev Shut : Lft → Share → Share → List State → ℕ → ℕ → ℕ → Fml
@@ -104,20 +104,20 @@ Shut κ q q′ ys i b o =
 module _ {M : Type 1} {𝓤 : URA M} {H : Heap 𝓤} {A : Atoms 𝓤} {K : Type 0} {W : Given 𝓤 H A} {Γ : List (Item 𝓤)} {G : Goal 𝓤 H} where
   pub elem-in : K → Soaks G → {κ : Lft} {q : Share} (ys : List State) (i b o : ℕ) → i < length ys
       → ((q′ : Share) → Is StateT (stateAt ys i) (state-vals (stateAt ys i))
-      → Seq K W (‵ (cellAt q′ (StateT .mir) (state-vals (stateAt ys i)) b (i * 24 + o)) ∷ ‵ (Shut κ q q′ ys i b o) ∷ ‵ (Lent κ ys b o) ∷ Γ) G)
+      → Seq K W (‵ (cellAt q′ (StateT .mir) (state-vals (stateAt ys i)) b (i * 40 + o)) ∷ ‵ (Shut κ q q′ ys i b o) ∷ ‵ (Lent κ ys b o) ∷ Γ) G)
       → Seq K W (‵ (Lent κ ys b o) ∷ ‵ (flft κ q) ∷ Γ) G
   elem-in t z ys i b o l k =
       looks-slice t z StateT (Is StateT) (shows 𝓤 H A StateT) state-vals (laws.tells the-state.the-type state-laws.the-laws) (laws.copy the-state.the-type state-laws.the-copy 𝓤 H A W) ys b o (λ q′.
-      elem-out t StateT (Is StateT) (shows 𝓤 H A StateT) state-vals (laws.tells the-state.the-type state-laws.the-laws) q′ ys i (state 0 0 0) b o l (λ is.
-      rewrite t 0 (λ (p : ℕ). ‵ (cellAt q′ (StateT .mir) (state-vals (stateAt ys i)) b p)) (place-is 24 o i) refl $
+      elem-out t StateT (Is StateT) (shows 𝓤 H A StateT) state-vals (laws.tells the-state.the-type state-laws.the-laws) q′ ys i noState b o l (λ is.
+      rewrite t 0 (λ (p : ℕ). ‵ (cellAt q′ (StateT .mir) (state-vals (stateAt ys i)) b p)) (place-is 40 o i) refl $
       -- [the cell; what it owns; the others; the open borrow; the borrow]
       move t (2 ∷ 3 ∷ []) $ fjoin t $ move t (2 ∷ 0 ∷ []) $ fjoin t $ move t (1 ∷ 0 ∷ []) $ k q′ is))
 
   pub elem-done : K → Soaks G → {κ : Lft} {q : Share} (q′ : Share) (ys : List State) (i b o : ℕ) → i < length ys
-      → Step K W (‵ (flft κ q) ∷ Γ) G (‵ (cellAt q′ (StateT .mir) (state-vals (stateAt ys i)) b (i * 24 + o)) ∷ ‵ (Shut κ q q′ ys i b o) ∷ Γ) G
-  elem-done t z q′ ys i b o l = step (λ s. rewrite t 0 (λ (p : ℕ). ‵ (cellAt q′ (StateT .mir) (state-vals (stateAt ys i)) b p)) (sym (place-is 24 o i)) refl $
+      → Step K W (‵ (flft κ q) ∷ Γ) G (‵ (cellAt q′ (StateT .mir) (state-vals (stateAt ys i)) b (i * 40 + o)) ∷ ‵ (Shut κ q q′ ys i b o) ∷ Γ) G
+  elem-done t z q′ ys i b o l = step (λ s. rewrite t 0 (λ (p : ℕ). ‵ (cellAt q′ (StateT .mir) (state-vals (stateAt ys i)) b p)) (sym (place-is 40 o i)) refl $
       move t (1 ∷ []) $ fsplit t $ move t (1 ∷ []) $ fsplit t $ move t (3 ∷ 2 ∷ 0 ∷ []) $
-      elem-back t StateT q′ ys i (state 0 0 0) (state-vals (stateAt ys i)) b o l $ shuts-slice t z StateT q′ ys b o $ s)
+      elem-back t StateT q′ ys i noState (state-vals (stateAt ys i)) b o l $ shuts-slice t z StateT q′ ys b o $ s)
 
 -- ---- a call of `copy`
 abbrev pub Copied : Claim copy.ended

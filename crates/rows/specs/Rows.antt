@@ -14,7 +14,7 @@ statesOf h = take (h .states) (tableOf (h .words))
 
 -- no state is held
 abbrev pub nothingHeld : Held
-nothingHeld = record { states = 0; words = replicate 195 0 }
+nothingHeld = record { states = 0; words = replicate 325 0 }
 
 -- one state more, where there is room for it
 abbrev pub oneMore : Held → State → Held

@@ -16,14 +16,14 @@ ghost use Rattle.rows.specs.Rows.{nothingHeld, oneMore, copied, statesOf
 // The first states of a row, 65 at most: one more than a table has.
 pub(crate) struct Held {
     pub states: usize,
-    pub words: [u64; 195],
+    pub words: [u64; 325],
 }
 
 // No state is held.
 pub(crate) fn nothing() -> Held
     ensures { λ r. ⌜ r ≡ nothingHeld ⌝ }
 {
-    let words = [0; 195];
+    let words = [0; 325];
     Held { states: 0, words }
 }
 
@@ -35,11 +35,14 @@ pub(crate) fn hold(held: Held, s: State) -> Held
     if 64 < n {
         return held;
     }
+    let f = s.filled;
     let u = s.units;
     let mut words = held.words;
-    words[n * 3] = s.mask;
-    words[n * 3 + 1] = s.misses;
-    words[n * 3 + 2] = u.0;
+    words[n * 5] = s.mask;
+    words[n * 5 + 1] = s.misses;
+    words[n * 5 + 2] = f.front;
+    words[n * 5 + 3] = f.back;
+    words[n * 5 + 4] = u.0;
     Held {
         states: n + 1,
         words,

@@ -5,7 +5,7 @@ use mathlib.Core.Logic.{_≢_}
 use mathlib.Core.Bool.{Bool, true, false}
 use mathlib.Core.List.{List, [], _∷_}
 use Prim.Native.Nat.{ℕ, zero, suc, _+_, _*_, _≤_, _<_, zero-le}
-use native.Mathlib.Nat.{le-refl, le-trans, max-le, pos-of-ne-zero}
+use native.Mathlib.Nat.{le-refl, max-le, pos-of-ne-zero}
 use native.Mathlib.Omega.{arith}
 use lib.Dec.{leb}
 use lib.ListN.{length}
@@ -13,16 +13,17 @@ use lib.Pow.{pow-pos}
 use borrow.Author.Tests.{leb-true, leb-false}
 use Rattle.rules.specs.declared.Pair.{Pair}
 use Rattle.rules.specs.Ordered.{remove, best}
-use Rattle.rules.specs.Table.{State, state, unitsOf, total, stateAt, Work}
+use Rattle.rules.specs.Table.{State, noState, unitsOf, total, stateAt, Work}
 use Rattle.rules.specs.Units.{whole, more}
 use Rattle.rules.specs.Fold.{fewer, closer, choice, meet, changed, foldAt, fold, foldsOf, folded}
 use Rattle.rules.specs.Shape.{Every, Loose, Shaped}
 use Rattle.rules.proofs.Splitting.{more-adds, more-most}
 use Rattle.rules.proofs.Lists.{every-remove, every-at, every-weaker, length-remove, best-lt}
 use Rattle.rules.proofs.Ordered.{in-order-remove}
-use Rattle.rules.proofs.Contents.{sub-shared-left, shared-lt}
-use Rattle.rules.proofs.Sets.{room-sub, room-zero}
-use Rattle.rules.proofs.Table.{Rising, rising-add, length-add-all, every-add, worthOf, worth, worth-add, worth-remove, one, worth-total}
+use Rattle.rules.proofs.Contents.{shared-lt}
+use Rattle.rules.proofs.Sets.{room-zero, room-shared}
+use Rattle.rules.proofs.Filling.{none-at}
+use Rattle.rules.proofs.Table.{Rising, rising-add, length-add-all, every-add, Weight, weightOf, worthOf, worth, worth-add, worth-remove, one, worth-total}
 use Rattle.rules.proofs.Step.{shaped-plus}
 
 -- ---- the parts of a fold
@@ -42,17 +43,17 @@ module _ (p : Pair) (T : List State) where
   meetOf = meet firstOf secondOf (more (unitsOf firstOf) (unitsOf secondOf))
 
   -- before: both states and the others
-  pub fold-before : (f : ℕ → ℕ → ℕ) → worthOf f firstOf + (worthOf f secondOf + worth f othersOf) ≡ worth f T
+  pub fold-before : (f : Weight) → worthOf f firstOf + (worthOf f secondOf + worth f othersOf) ≡ worth f T
   fold-before f = ap (worthOf f firstOf +_) (worth-remove f (p .partner) (remove (p .fewest) T)) ∙ worth-remove f (p .fewest) T
 
   -- after: the units of both, at what they become, and the others
-  pub fold-after : total T ≤ whole → (f : ℕ → ℕ → ℕ) (a : ℕ)
+  pub fold-after : total T ≤ whole → (f : Weight) (a : ℕ)
       → worth f (foldAt p (record { table = T; aside = a }) .table)
-      ≡ (unitsOf firstOf + unitsOf secondOf) * f (meetOf .mask) (meetOf .misses) + worth f othersOf
+      ≡ (unitsOf firstOf + unitsOf secondOf) * weightOf f meetOf + worth f othersOf
   unfolding foldAt total
   fold-after h f a =
       worth-add f (meetOf ∷ []) othersOf (omega (arith, all, sum, worth-total othersOf))
-      ∙ ap (λ (u : ℕ). u * f (meetOf .mask) (meetOf .misses) + 0 + worth f othersOf) sum
+      ∙ ap (λ (u : ℕ). u * weightOf f meetOf + 0 + worth f othersOf) sum
       ∙ omega arith
     where
       all : unitsOf firstOf + unitsOf secondOf + worth one othersOf ≤ whole
@@ -81,22 +82,22 @@ unfolding foldAt
 rising-fold p w h = rising-add _ _ (in-order-remove _ _ _ (in-order-remove _ _ (w .table) h))
 
 module _ (N Z : ℕ) (ts : List ℕ) (M : ℕ) where
-  pub loose-none : Loose N Z ts M (state 0 0 0)
-  loose-none = record { masked = pow-pos (length ts); few = zero-le; small = room-zero N Z ts }
+  pub loose-none : Loose N Z ts M noState
+  loose-none = record { masked = pow-pos (length ts); few = zero-le; small = room-zero N Z ts (noState .filled) (λ j. rw (none-at j) zero-le) }
 
   pub shaped-meet : (s t : State) (u : ℕ) → Loose N Z ts M s → Loose N Z ts M t → u ≢ 0 → Shaped N Z ts M (meet s t u)
   shaped-meet s t u p q n = (
     record {
       masked = shared-lt (length ts) (s .mask) (t .mask) (p .masked);
       few = max-le (p .few) (q .few);
-      small = room-sub N Z ts _ _ (sub-shared-left (s .mask) (t .mask)) (p .small);
+      small = room-shared N Z ts (s .mask) (t .mask) (s .filled) (t .filled) (p .small) (q .small);
     },
     pos-of-ne-zero n,
   )
 
   -- the state at a place, or none
   pub loose-at : (i : ℕ) (T : List State) → Every (Shaped N Z ts M) T → Loose N Z ts M (stateAt T i)
-  loose-at i T h = every-at (Loose N Z ts M) (state 0 0 0) loose-none i T (every-weaker (Shaped N Z ts M) (Loose N Z ts M) (λ s p. p .0) T h)
+  loose-at i T h = every-at (Loose N Z ts M) noState loose-none i T (every-weaker (Shaped N Z ts M) (Loose N Z ts M) (λ s p. p .0) T h)
 
   pub shaped-fold : (p : Pair) (w : Work) → Every (Shaped N Z ts M) (w .table) → Every (Shaped N Z ts M) (foldAt p w .table)
   unfolding foldAt

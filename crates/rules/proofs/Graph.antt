@@ -5,7 +5,7 @@ use mathlib.Core.Bool.{Bool, true, false, cond, true≢false}
 use mathlib.Core.List.{List, [], _∷_, _++_}
 use mathlib.Core.Logic.{_⊎_, inl, inr, ⊎-elim}
 use Prim.Native.Nat.{ℕ, zero, suc, _+_, _-_, _≤_, _<_, zero-le}
-use native.Mathlib.Nat.{le-refl, eq-or-lt-of-le, le-of-suc-le-suc, not-suc-le-zero}
+use native.Mathlib.Nat.{le-refl, le-trans, eq-or-lt-of-le, le-of-suc-le-suc, not-suc-le-zero}
 use native.Mathlib.Omega.{arith}
 use lib.Dec.{eqb}
 use lib.ListN.{length, getD, take, drop, length-append, length-drop, List·getD-append}
@@ -17,11 +17,13 @@ use Rattle.basics.proofs.Sums.{sum-append}
 use Rattle.rules.specs.Units.{whole}
 use Rattle.rules.specs.Contents.{Last, block, unknown, agreed, among, targetOf}
 use Rattle.rules.specs.Input.{Input, nodes, offset, runOf, edgesOf, predecessors}
+use Rattle.rules.specs.Filling.{Filled, filledAt}
 use Rattle.rules.specs.Table.{State, begin, Work}
 use Rattle.rules.specs.Run.{run}
-use Rattle.rules.specs.Graph.{Worked, tableAt, lastAt, joinAll, enter, agreeAll, lastBefore, nodeLast, lastsTo, node, worked, finished}
+use Rattle.rules.specs.Graph.{Worked, tableAt, lastAt, joinAll, startsEmpty, atStart, enter, agreeAll, lastBefore, nodeLast, lastsTo, node, worked, finished}
 use Rattle.rules.specs.Shape.{Table}
 use Rattle.rules.proofs.Refusals.{Checked, predecessor-lower}
+use Rattle.rules.proofs.Filling.{evenly-most}
 use Rattle.rules.proofs.Fold.{folded-aside}
 use Rattle.rules.proofs.Run.{advance-aside, table-wider, table-begin, table-join, table-run}
 
@@ -81,19 +83,20 @@ first-and-others P a is h = (h a (or-left (eqb a a) _ (eq-eqb a a refl)), λ j e
 pub first-or-other : (P : ℕ → Type 0) (a : ℕ) (is : List ℕ) → P a → ((j : ℕ) → among is j ≡ true → P j) → (j : ℕ) → among (a ∷ is) j ≡ true → P j
 first-or-other P a is p q j e = ⊎-elim (λ h. subst P (eqb-true a j h) p) (q j) (or-cases (eqb a j) (among is j) e)
 
-module _ (N Z : ℕ) (ts : List ℕ) (K : ℕ) (some : 0 < N) (room : 0 < K) (M : ℕ) (d : Worked) where
+module _ (N Z : ℕ) (ts : List ℕ) (K : ℕ) (some : 0 < N) (few : N ≤ 16) (room : 0 < K) (M : ℕ) (d : Worked) where
   pub table-joinAll : (is : List ℕ) (w : Work) → ((j : ℕ) → among is j ≡ true → Table N Z ts K M (tableAt d j))
       → Table N Z ts K M (w .table) → Table N Z ts K M (joinAll K d is w .table)
   unfolding joinAll
   table-joinAll [] w h t = t
   table-joinAll (a ∷ is) w h t =
       let (p, q) = first-and-others (λ j. Table N Z ts K M (tableAt d j)) a is h in
-      table-joinAll is _ q (table-join N Z ts K some room M (w .table) (tableAt d a) (w .aside) t p)
+      table-joinAll is _ q (table-join N Z ts K some few room M (w .table) (tableAt d a) (w .aside) t p)
 
-  pub table-enter : (is : List ℕ) → ((j : ℕ) → among is j ≡ true → Table N Z ts K M (tableAt d j)) → Table N Z ts K M (enter K d is .table)
+  pub table-enter : (F : Filled) → ((j : ℕ) → filledAt F j ≤ N) → (is : List ℕ) → ((j : ℕ) → among is j ≡ true → Table N Z ts K M (tableAt d j))
+      → Table N Z ts K M (enter K F d is .table)
   unfolding enter
-  table-enter [] h = table-wider N Z ts K 0 M begin (omega arith) (table-begin N Z ts K some room)
-  table-enter (a ∷ is) h =
+  table-enter F most [] h = table-wider N Z ts K 0 M (begin F) (omega arith) (table-begin N Z ts K some few room F most)
+  table-enter F most (a ∷ is) h =
       let (p, q) = first-and-others (λ j. Table N Z ts K M (tableAt d j)) a is h in
       table-joinAll is _ q p
 
@@ -144,22 +147,23 @@ module _ (K : ℕ) (d : Worked) where
   aside-joinAll [] w h = h
   aside-joinAll (a ∷ is) w h = aside-joinAll is _ (folded-aside K _ h)
 
-  pub aside-enter : (is : List ℕ) → d .aside ≤ whole → enter K d is .aside ≤ whole
+  pub aside-enter : (F : Filled) (is : List ℕ) → d .aside ≤ whole → enter K F d is .aside ≤ whole
   unfolding enter
-  aside-enter [] h = h
-  aside-enter (a ∷ is) h = aside-joinAll is _ h
+  aside-enter F [] h = h
+  aside-enter F (a ∷ is) h = aside-joinAll is _ h
 
-aside-run : (N Z K : ℕ) → 0 < N → 0 < K → (ts : List ℕ) (l : Last) (bs : List ℕ) (w : Work) → w .aside ≤ whole
+aside-run : (N Z K : ℕ) (ts : List ℕ) (l : Last) (bs : List ℕ) (w : Work) → w .aside ≤ whole
     → run N Z K ts l bs w .aside ≤ whole
 unfolding run
-aside-run N Z K some room ts l [] w h = h
-aside-run N Z K some room ts l (b ∷ bs) w h = aside-run N Z K some room ts (block b) bs _ (advance-aside N Z ts K some room (targetOf Z ts l b) w)
+aside-run N Z K ts l [] w h = h
+aside-run N Z K ts l (b ∷ bs) w h = aside-run N Z K ts (block b) bs _ (advance-aside N K (targetOf Z ts l b) w)
 
-pub aside-worked : (i : Input) → 0 < i .ways → 0 < i .limit → (n : ℕ) → worked i n .aside ≤ whole
+pub aside-worked : (i : Input) (n : ℕ) → worked i n .aside ≤ whole
 unfolding worked node
-aside-worked i some room zero = omega arith
-aside-worked i some room (suc n) =
-    aside-run (i .ways) (i .sets) (i .limit) some room (i .tracked) _ (runOf i n) _ (aside-enter (i .limit) (worked i n) (predecessors (edgesOf (i .edges)) n) (aside-worked i some room n))
+aside-worked i zero = omega arith
+aside-worked i (suc n) =
+    aside-run (i .ways) (i .sets) (i .limit) (i .tracked) _ (runOf i n) _
+    (aside-enter (i .limit) (worked i n) (atStart i) (predecessors (edgesOf (i .edges)) n) (aside-worked i n))
 
 -- ---- the runs
 
@@ -194,6 +198,18 @@ module _ (i : Input) (ok : Checked i) (j : ℕ) (l : j < nodes i) where
   unfolding runOf
   run-long = length-take-le (getD (i .lengths) j 0) (drop (offset (i .lengths) j) (i .accesses)) (omega (arith, run-within, length-drop (offset (i .lengths) j) (i .accesses)))
 
+-- ---- the start
+
+-- no more ways may be filled than there are
+pub start-most : (i : Input) → Checked i → (j : ℕ) → filledAt (atStart i) j ≤ i .ways
+unfolding atStart
+start-most i ok j =
+    le-trans (evenly-most (i .sets) _ (ok .few-sets) (omega (arith, ok .few-ways, most (startsEmpty i))) j) (most (startsEmpty i))
+  where
+    most : (b : Bool) → cond b 0 (i .ways) ≤ i .ways
+    most true = zero-le
+    most false = le-refl (i .ways)
+
 -- ---- every node
 
 module _ (i : Input) (ok : Checked i) where
@@ -216,8 +232,9 @@ module _ (i : Input) (ok : Checked i) where
   unfolding node
   table-node M n l h =
       rw (← run-long i ok n l)
-      (table-run (i .ways) (i .sets) (i .limit) (i .tracked) (ok .some-ways) (ok .some-states) M _ (runOf i n) _
-      (table-enter (i .ways) (i .sets) (i .tracked) (i .limit) (ok .some-ways) (ok .some-states) M (worked i n) (predecessors (edgesOf (i .edges)) n)
+      (table-run (i .ways) (i .sets) (i .limit) (i .tracked) (ok .some-ways) (ok .few-ways) (ok .some-sets) (ok .few-sets) (ok .some-states) M _ (runOf i n) _
+      (table-enter (i .ways) (i .sets) (i .tracked) (i .limit) (ok .some-ways) (ok .few-ways) (ok .some-states) M (worked i n) (atStart i) (start-most i ok)
+      (predecessors (edgesOf (i .edges)) n)
       (λ a e. rw (table-stays i n a (predecessor-lower i ok a n e .0)) (h a e))))
 
   -- a table's misses are at most the accesses up to the end of its node's run

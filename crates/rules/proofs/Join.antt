@@ -13,11 +13,11 @@ use borrow.Author.Tests.{eqb-true, eq-eqb, ne-eqb}
 use Rattle.basics.specs.Sums.{sumOver}
 use Rattle.basics.proofs.Sums.{sum-map, sumTo, sum-eq, sum-add, sum-const, sum-list, sumOn, on-none, on-point}
 use Rattle.rules.specs.Units.{whole}
-use Rattle.rules.specs.Table.{State, state, unitsOf, total, stateAt}
+use Rattle.rules.specs.Table.{State, noState, unitsOf, total, stateAt}
 use Rattle.rules.specs.Join.{Match, matched, paired, less, leftAfter, placeAfter, walk, fromFront, join}
 use Rattle.rules.specs.Shape.{Every, Shaped}
 use Rattle.rules.proofs.Lists.{every-weaker}
-use Rattle.rules.proofs.Table.{Rising, rising-add, length-add-all, every-add, worthOf, worth, worth-add, total-add, one, worth-total}
+use Rattle.rules.proofs.Table.{Rising, rising-add, length-add-all, every-add, Weight, weightOf, worthOf, worth, worth-add, total-add, one, worth-total}
 use Rattle.rules.proofs.Step.{shaped-plus}
 use Rattle.rules.proofs.Fold.{shaped-meet, loose-at}
 
@@ -55,12 +55,12 @@ by-place side n h (m ∷ P) e =
     part a false = omega arith
 
 -- a table is worth what its matched units are
-pub matched-worth : (side : Match → ℕ) (P : List Match) (T : List State) → Uses side P T → (f : ℕ → ℕ → ℕ)
-    → worth f T ≡ sumOver (λ m. m .units * f (stateAt T (side m) .mask) (stateAt T (side m) .misses)) P
+pub matched-worth : (side : Match → ℕ) (P : List Match) (T : List State) → Uses side P T → (f : Weight)
+    → worth f T ≡ sumOver (λ m. m .units * weightOf f (stateAt T (side m))) P
 matched-worth side P T u f =
-    sym (sum-list (worthOf f) T (state 0 0 0))
-    ∙ sum-eq (length T) _ _ (λ a l. ap (_* f (stateAt T a .mask) (stateAt T a .misses)) (sym (u .exactly a l)))
-    ∙ by-place side (length T) (λ a. f (stateAt T a .mask) (stateAt T a .misses)) P (u .exist)
+    sym (sum-list (worthOf f) T noState)
+    ∙ sum-eq (length T) _ _ (λ a l. ap (_* weightOf f (stateAt T a)) (sym (u .exactly a l)))
+    ∙ by-place side (length T) (λ a. weightOf f (stateAt T a)) P (u .exist)
 
 -- ---- the join by it
 
@@ -76,7 +76,7 @@ module _ (P : List Match) (S T : List State) (uses : Uses (λ m. m .left) P S) (
       each [] = refl
       each (m ∷ P) = omega (arith, each P)
 
-  pub paired-worth : (f : ℕ → ℕ → ℕ) → worth f (paired P S T) ≡ sumOver (λ m. worthOf f (matched S T m)) P
+  pub paired-worth : (f : Weight) → worth f (paired P S T) ≡ sumOver (λ m. worthOf f (matched S T m)) P
   unfolding paired total
   paired-worth f =
       worth-add f (map (matched S T) P) [] (omega (arith, units-paired))

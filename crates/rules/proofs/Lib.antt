@@ -6,6 +6,7 @@ pub mod Lists
 pub mod Bits
 pub mod Contents
 pub mod Lookup
+pub mod Filling
 pub mod Sets
 -- Tables
 pub mod Ordered
@@ -18,6 +19,8 @@ pub mod Refusals
 -- The tables of runs and graphs
 pub mod Run
 pub mod Graph
+-- The first revision among them
+pub mod Revisions
 -- The rooms of a call
 pub mod Rooms
 -- The longest path

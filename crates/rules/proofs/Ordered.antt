@@ -1,7 +1,6 @@
 -- Which of two comes first, by two numbers; whether a list rises. Insertion into a list in an order, over any element: what stays true of every element, what is summed, how long the list gets,
--- and that it keeps rising. Then the order of states, by mask and misses.
-use mathlib.Core.Path.{_≡_, refl, sym, _∙_}
-use mathlib.Core.Logic.{_⊎_, inl, inr}
+-- and that it keeps rising. Then the order of states, by mask, misses and filled numbers, made of the orders of numbers one after the other.
+use mathlib.Core.Path.{_≡_, refl, sym, ap, ap₂, _∙_}
 use mathlib.Core.Bool.{Bool, true, false, cond, _&&_, true≢false}
 use mathlib.Core.List.{List, [], _∷_}
 use Prim.Native.Nat.{ℕ, zero, suc, _+_, _≤_, _<_}
@@ -15,6 +14,7 @@ use Rattle.rules.specs.Ordered.{Order, before, same, after, byNumber, th
 use Rattle.rules.specs.Table.{State, order, plus}
 use Rattle.rules.specs.Shape.{Every}
 use Rattle.rules.proofs.Lists.{every-weaker, every-remove}
+use Rattle.rules.proofs.Filling.{same-filled}
 
 -- ---- by two numbers
 
@@ -184,74 +184,148 @@ number-before a b l = rw (lt-ltb a b l)
 number-after : (a b : ℕ) → b < a → byNumber a b ≡ after
 number-after a b l = rw (le-ltb a b (omega arith), ne-eqb a b (λ e. absurd (omega arith)))
 
-number-same : (a b : ℕ) → a ≡ b → byNumber a b ≡ same
+pub number-same : (a b : ℕ) → a ≡ b → byNumber a b ≡ same
 number-same a b e = rw (le-ltb a b (omega arith), eq-eqb a b e)
 
--- ---- by two numbers
+-- what it says
+said-before : (a b : ℕ) → byNumber a b ≡ before → a < b
+said-before a b =
+    number-cases a b (λ o. o ≡ before → a < b) (λ l e. l) (λ q e. let z : _≡_ {A = ℕ} 0 1 = cc in absurd (omega arith))
+    (λ l e. let z : _≡_ {A = ℕ} 0 1 = cc in absurd (omega arith))
 
-module _ {A : Type 0} (p q : A → ℕ) where
-  -- before by the first, or by the second where the first are equal
-  abbrev pub Less : A → A → Type 0
-  Less s t = (p s < p t) ⊎ ((p s ≡ p t) × (q s < q t))
+said-same : (a b : ℕ) → byNumber a b ≡ same → a ≡ b
+said-same a b =
+    number-cases a b (λ o. o ≡ same → a ≡ b) (λ l e. let z : _≡_ {A = ℕ} 0 1 = cc in absurd (omega arith)) (λ q e. q)
+    (λ l e. let z : _≡_ {A = ℕ} 0 1 = cc in absurd (omega arith))
 
-  -- what the order says
-  abbrev Said : A → A → Order → Type 0
-  Said s t before = Less s t
-  Said s t same = (p s ≡ p t) × (q s ≡ q t)
-  Said s t after = Less t s
+-- ---- one order, and then another
 
-  says : (s t : A) → Said s t (byTwo p q s t)
-  says s t =
-      number-cases (p s) (p t) (λ o. Said s t (thenBy o (byNumber (q s) (q t)))) inl
-      (λ e. number-cases (q s) (q t) (Said s t) (λ l. inr (e, l)) (λ d. (e, d)) (λ l. inr (sym e, l)))
-      inl
+abbrev pub turned : Order → Order
+turned before = after
+turned same = same
+turned after = before
 
-  pub two-before : (s t : A) → byTwo p q s t ≡ before → Less s t
-  two-before s t e = rw e at (says s t)
+then-both : (p q : Order) → thenBy p q ≡ same → (p ≡ same) × (q ≡ same)
+then-both before q e = let z : _≡_ {A = ℕ} 0 1 = cc in absurd (omega arith)
+then-both same q e = (refl, e)
+then-both after q e = let z : _≡_ {A = ℕ} 0 1 = cc in absurd (omega arith)
 
-  pub two-same : (s t : A) → byTwo p q s t ≡ same → (p s ≡ p t) × (q s ≡ q t)
-  two-same s t e = rw e at (says s t)
+-- what an order is: turned round, it says the other thing; what stand in the same place stand so to all others; it goes on
+pub record Orders {A : Type 0} (o : A → A → Order) : Type 0 where
+  pub turn : (s t : A) → o t s ≡ turned (o s t)
+  pub like : (s t u : A) → o s t ≡ same → o s u ≡ o t u
+  pub onward : (s t u : A) → o s t ≡ before → o t u ≡ before → o s u ≡ before
 
-  less-before : (s t : A) → Less s t → byTwo p q s t ≡ before
-  less-before s t (inl l) = rw (number-before (p s) (p t) l)
-  less-before s t (inr (e, l)) = rw (number-same (p s) (p t) e, number-before (q s) (q t) l)
+pub by-number : {A : Type 0} (p : A → ℕ) → Orders (λ s t. byNumber (p s) (p t))
+by-number p =
+    record {
+      turn = λ s t. number-cases (p s) (p t) (λ o. byNumber (p t) (p s) ≡ turned o) (number-after (p t) (p s))
+          (λ e. number-same (p t) (p s) (sym e)) (number-before (p t) (p s));
+      like = λ s t u e. ap (λ (n : ℕ). byNumber n (p u)) (said-same (p s) (p t) e);
+      onward = λ s t u a b. number-before (p s) (p u) (omega (arith, said-before (p s) (p t) a, said-before (p t) (p u) b));
+    }
 
-  less-trans : (s t u : A) → Less s t → Less t u → Less s u
-  less-trans s t u (inl a) (inl b) = inl (omega arith)
-  less-trans s t u (inl a) (inr b) = inl (omega arith)
-  less-trans s t u (inr a) (inl b) = inl (omega arith)
-  less-trans s t u (inr a) (inr b) = inr (omega arith)
-
-  pub two-onward : (s t u : A) → byTwo p q s t ≡ before → byTwo p q t u ≡ before → byTwo p q s u ≡ before
-  two-onward s t u a b = less-before s u (less-trans s t u (two-before s t a) (two-before t u b))
-
-  less-after : (s t : A) → Less t s → byTwo p q s t ≡ after
-  less-after s t (inl l) = rw (number-after (p s) (p t) l)
-  less-after s t (inr (e, l)) = rw (number-same (p s) (p t) (sym e), number-after (q s) (q t) l)
+module _ {A : Type 0} (o : A → A → Order) (orders : Orders o) where
+  like-right : (s t u : A) → o t u ≡ same → o s t ≡ o s u
+  like-right s t u e = orders .turn t s ∙ ap turned (orders .like t u s e) ∙ sym (orders .turn u s)
 
   -- what stands after t stands after all before t
-  pub two-after : (s t u : A) → byTwo p q s t ≡ after → byTwo p q u t ≡ before → byTwo p q s u ≡ after
-  two-after s t u a b = less-after s u (less-trans u t s (two-before u t b) (rw a at (says s t)))
+  pub after-all : (s t u : A) → o s t ≡ after → o u t ≡ before → o s u ≡ after
+  after-all s t u a b = orders .turn u s ∙ ap turned (orders .onward u t s b (orders .turn s t ∙ ap turned a))
 
-  pub two-turned : (s t : A) → byTwo p q s t ≡ after → byTwo p q t s ≡ before
-  two-turned s t e = less-before t s (rw e at (says s t))
+  pub turned-before : (s t : A) → o s t ≡ after → o t s ≡ before
+  turned-before s t e = orders .turn s t ∙ ap turned e
+
+  module _ (o′ : A → A → Order) (orders′ : Orders o′) where
+    pub then-by : Orders (λ s t. thenBy (o s t) (o′ s t))
+    then-by =
+        record {
+          turn = λ s t. ap₂ thenBy (orders .turn s t) (orders′ .turn s t) ∙ round (o s t) (o′ s t);
+          like = λ s t u e. let (a, b) = then-both (o s t) (o′ s t) e in ap₂ thenBy (orders .like s t u a) (orders′ .like s t u b);
+          onward = λ s t u a b. on s t u (o s t) (o t u) refl refl a b;
+        }
+      where
+        round : (p q : Order) → thenBy (turned p) (turned q) ≡ turned (thenBy p q)
+        round before q = refl
+        round same q = refl
+        round after q = refl
+
+        on : (s t u : A) (p q : Order) → o s t ≡ p → o t u ≡ q → thenBy p (o′ s t) ≡ before → thenBy q (o′ t u) ≡ before → thenBy (o s u) (o′ s u) ≡ before
+        on s t u before before x y a b = rw (orders .onward s t u x y)
+        on s t u before same x y a b = rw (sym (like-right s t u y) ∙ x)
+        on s t u same before x y a b = rw (orders .like s t u x ∙ y)
+        on s t u same same x y a b = rw (orders .like s t u x ∙ y) (orders′ .onward s t u a b)
+        on s t u before after x y a b = let z : _≡_ {A = ℕ} 0 1 = cc in absurd (omega arith)
+        on s t u same after x y a b = let z : _≡_ {A = ℕ} 0 1 = cc in absurd (omega arith)
+        on s t u after q x y a b = let z : _≡_ {A = ℕ} 0 1 = cc in absurd (omega arith)
 
 -- ---- the order of states
 
-pub order-same : (s t : State) → order s t ≡ same → (s .mask ≡ t .mask) × (s .misses ≡ t .misses)
+pub state-orders : Orders order
 unfolding order
-order-same s t e = two-same (λ s. s .mask) (λ s. s .misses) s t e
+state-orders =
+    then-by _ (then-by _ (by-number (λ s. s .mask)) _ (by-number (λ s. s .misses))) _
+    (then-by _ (by-number (λ s. s .filled .front)) _ (by-number (λ s. s .filled .back)))
+
+pub order-same : (s t : State) → order s t ≡ same → (s .mask ≡ t .mask) × (s .misses ≡ t .misses) × (s .filled ≡ t .filled)
+unfolding order
+order-same s t e =
+    let (x, y) = then-both (byTwo (λ s. s .mask) (λ s. s .misses) s t) _ e in
+    let (a, b) = then-both (byNumber (s .mask) (t .mask)) _ x in
+    let (c, d) = then-both (byNumber (s .filled .front) (t .filled .front)) _ y in (
+      said-same (s .mask) (t .mask) a,
+      said-same (s .misses) (t .misses) b,
+      same-filled (s .filled) (t .filled) (said-same (s .filled .front) (t .filled .front) c, said-same (s .filled .back) (t .filled .back) d),
+    )
 
 pub order-after : (s t u : State) → order s t ≡ after → order u t ≡ before → order s u ≡ after
-unfolding order
-order-after s t u a b = two-after (λ s. s .mask) (λ s. s .misses) s t u a b
+order-after = after-all order state-orders
 
 pub states-sort : Sorts order plus
 unfolding order
 states-sort =
     record {
-      onward = two-onward (λ s. s .mask) (λ s. s .misses);
-      turned = two-turned (λ s. s .mask) (λ s. s .misses);
+      onward = state-orders .onward;
+      turned = turned-before order state-orders;
       placed-left = λ t s u. refl;
       placed-right = λ u t s. refl;
     }
+
+-- ---- whether one state stands before another, as code tells it: by mask and misses, one way or the other, and otherwise by the filled numbers
+
+module _ (s t : State) where
+  abbrev byContents : State → State → Order
+  byContents s t = byTwo (λ s. s .mask) (λ s. s .misses) s t
+
+  abbrev byFilled : Order
+  byFilled = byTwo (λ s. s .filled .front) (λ s. s .filled .back) s t
+
+  back-turned : byContents t s ≡ turned (byContents s t)
+  back-turned = then-by {A = State} _ (by-number (λ s. s .mask)) _ (by-number (λ s. s .misses)) .turn s t
+
+  pub before-at-once : (r : Bool) → r ≡ isBefore (byContents s t) → r ≡ true → true ≡ isBefore (order s t)
+  unfolding order
+  before-at-once r e h = go (byContents s t) (sym e ∙ h)
+    where
+      go : (o : Order) → isBefore o ≡ true → true ≡ isBefore (thenBy o byFilled)
+      go before h = refl
+      go same h = absurd (true≢false (sym h))
+      go after h = absurd (true≢false (sym h))
+
+  pub after-at-once : (r : Bool) → r ≡ isBefore (byContents t s) → r ≡ true → false ≡ isBefore (order s t)
+  unfolding order
+  after-at-once r e h = go (byContents s t) (ap isBefore (sym back-turned) ∙ sym e ∙ h)
+    where
+      go : (o : Order) → isBefore (turned o) ≡ true → false ≡ isBefore (thenBy o byFilled)
+      go before h = absurd (true≢false (sym h))
+      go same h = absurd (true≢false (sym h))
+      go after h = refl
+
+  pub by-filled : (p q r : Bool) → p ≡ isBefore (byContents s t) → p ≡ false → q ≡ isBefore (byContents t s) → q ≡ false → r ≡ isBefore byFilled → r ≡ isBefore (order s t)
+  unfolding order
+  by-filled p q r e h f k g = g ∙ go (byContents s t) (sym e ∙ h) (ap isBefore (sym back-turned) ∙ sym f ∙ k)
+    where
+      go : (o : Order) → isBefore o ≡ false → isBefore (turned o) ≡ false → isBefore byFilled ≡ isBefore (thenBy o byFilled)
+      go before h k = absurd (true≢false h)
+      go same h k = refl
+      go after h k = absurd (true≢false k)

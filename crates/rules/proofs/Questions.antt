@@ -24,11 +24,13 @@ use Rattle.rules.specs.declared.Count.the-variants.{Misses, Refused as R
 use Rattle.rules.specs.Units.{whole, units}
 use Rattle.rules.specs.Answers.{outcomeSays, amountSays}
 use Rattle.rules.specs.Input.{Input, nodes}
+use Rattle.rules.specs.Filling.{numbersOf}
 use Rattle.rules.specs.Table.{State, unitsOf, rising, total, stateAt}
 use Rattle.rules.specs.Graph.{finished}
-use Rattle.rules.specs.Questions.{fitting, allFitting, isTable, unitsAt, largest, countsBelow, spread, above, leastFrom, least, smallestBudget, aboveAnswer, budgetAnswer, spreadAnswer}
+use Rattle.rules.specs.Questions.{allMost, fitting, allFitting, isTable, unitsAt, largest, countsBelow, spread, above, leastFrom, least, smallestBudget, aboveAnswer, budgetAnswer, spreadAnswer}
 use Rattle.rules.specs.Refusals.{outcome}
 use Rattle.rules.specs.Shape.{Every, Shaped, Table}
+use Rattle.rules.proofs.Filling.{numbers-most}
 use Rattle.rules.proofs.Refusals.{Checked, accepted}
 use Rattle.rules.proofs.Graph.{finished-table, node-table}
 
@@ -268,28 +270,30 @@ smallest-is u T B serves none =
 
 -- ---- what is accepted as a table
 
-all-fit : (N Z : ℕ) (ts : List ℕ) (M : ℕ) (T : List State) → length ts ≤ 16 → M ≤ 4096 → Every (Shaped N Z ts M) T → allFitting T ≡ true
-all-fit N Z ts M [] a b h = refl
-all-fit N Z ts M (s ∷ T) a b h =
+all-fit : (N Z : ℕ) (ts : List ℕ) (M : ℕ) (T : List State) → N ≤ 16 → length ts ≤ 16 → M ≤ 4096 → Every (Shaped N Z ts M) T → allFitting T ≡ true
+all-fit N Z ts M [] n a b h = refl
+all-fit N Z ts M (s ∷ T) n a b h =
     both (fitting s) (allFitting T)
+    (both (leb (s .mask) 65535 && leb (s .misses) 4096 && allMost 16 (numbersOf (s .filled))) _
     (both (leb (s .mask) 65535 && leb (s .misses) 4096) _
     (both (leb (s .mask) 65535) _ (le-leb (s .mask) 65535 (omega (arith, h .0 .0 .masked, wide)))
     (le-leb (s .misses) 4096 (le-trans (h .0 .0 .few) b)))
+    (numbers-most 16 (s .filled) (λ j. le-trans (h .0 .0 .small j .1) n)))
     (le-leb 1 (unitsOf s) (h .0 .1)))
-    (all-fit N Z ts M T a b (h .1))
+    (all-fit N Z ts M T n a b (h .1))
   where
     wide : 2 ^ length ts ≤ 2 ^ 16
     wide = pow-mono a
 
-pub table-is : (N Z : ℕ) (ts : List ℕ) (K M : ℕ) (T : List State) → length ts ≤ 16 → K ≤ 64 → M ≤ 4096 → Table N Z ts K M T → isTable T ≡ true
+pub table-is : (N Z : ℕ) (ts : List ℕ) (K M : ℕ) (T : List State) → N ≤ 16 → length ts ≤ 16 → K ≤ 64 → M ≤ 4096 → Table N Z ts K M T → isTable T ≡ true
 unfolding isTable total
-table-is N Z ts K M T a b c t =
+table-is N Z ts K M T n a b c t =
     both _ (eqb (total T) whole)
     (both _ (allFitting T)
     (both _ (rising T)
     (both _ (leb (length T) 64) (le-leb 1 (length T) (some T (t .full))) (le-leb (length T) 64 (le-trans (t .short) b)))
     (t .rises))
-    (all-fit N Z ts M T a c (t .shaped)))
+    (all-fit N Z ts M T n a c (t .shaped)))
     (eq-eqb (total T) whole (t .full))
   where
     some : (T : List State) → sumOver unitsOf T ≡ whole → 1 ≤ length T
@@ -307,7 +311,7 @@ finished-whole i h = finished-good i (accepted i h) .full
 pub finished-is-table : (i : Input) → outcomeSays (outcome i) .number ≡ 0 → isTable (finished i .table) ≡ true
 finished-is-table i h =
     let ok = accepted i h in
-    table-is _ _ _ _ _ (finished i .table) (ok .few-tracked) (ok .few-states) (ok .few-accesses) (finished-good i ok)
+    table-is _ _ _ _ _ (finished i .table) (ok .few-ways) (ok .few-tracked) (ok .few-states) (ok .few-accesses) (finished-good i ok)
 
 -- ---- the answers
 

@@ -12,7 +12,7 @@ use borrow.Author.Tests.{ltb-true, ltb-false, eqb-true, not-false}
 use Rattle.basics.specs.Sums.{sumOver}
 use Rattle.basics.proofs.Bools.{and-left, and-right, or-cases, not-left, not-right}
 use Rattle.rules.specs.declared.Refusal.{Refusal}
-use Rattle.rules.specs.declared.Refusal.the-variants.{Text, Ways, Limit, Tracked, Accesses, Graph, Room, Row, SpreadRoom, Sets, NoCore, TraceLength, TraceRoom}
+use Rattle.rules.specs.declared.Refusal.the-variants.{Text, Ways, Limit, Tracked, Accesses, Graph, Room, Row, SpreadRoom, Sets, Revision, NoCore, TraceLength, TraceRoom}
 use Rattle.rules.specs.declared.Verdict.{Verdict}
 use Rattle.rules.specs.declared.Verdict.the-variants.{Accepted, Refused}
 use Rattle.rules.specs.Answers.{numberOf, Reason, first, verdictSays, outcomeSays}
@@ -23,7 +23,7 @@ use Rattle.rules.specs.Graph.{finished}
 use Rattle.rules.specs.Refusals.{outside, forward, inPairs, edgeOrder, eachBelow, hasEdgeIn, hasEdgeOut, edgesKept, setCounts, reasons, verdict, answered, outcome}
 use Rattle.rules.specs.Shape.{Every}
 use Rattle.rules.proofs.Lookup.{among-every}
-use Rattle.rules.proofs.Ordered.{InOrder, in-order-rises, rises-in-order, number-before, two-before, two-onward}
+use Rattle.rules.proofs.Ordered.{InOrder, in-order-rises, rises-in-order, number-same, by-number, then-by}
 
 -- ---- no reason applies
 
@@ -38,6 +38,7 @@ numbered Room e = omega arith
 numbered Row e = omega arith
 numbered SpreadRoom e = omega arith
 numbered Sets e = omega arith
+numbered Revision e = omega arith
 numbered NoCore e = omega arith
 numbered TraceLength e = omega arith
 numbered TraceRoom e = omega arith
@@ -58,6 +59,9 @@ pub record Checked (i : Input) : Type 0 where
   pub few-ways : i .ways ≤ 16
   pub known-sets : among setCounts (i .sets) ≡ true
   pub some-sets : 0 < i .sets
+  pub few-sets : i .sets ≤ 16
+  pub low-revision : 1 ≤ i .revision
+  pub high-revision : i .revision ≤ 2
   pub some-states : 0 < i .limit
   pub few-states : i .limit ≤ 64
   pub few-tracked : length (i .tracked) ≤ 16
@@ -78,13 +82,17 @@ within low high n h =
 pub counts-some : (n : ℕ) → among setCounts n ≡ true → 0 < n
 counts-some n h = among-every (λ m. 0 < m) setCounts n h (omega arith, (omega arith, (omega arith, (omega arith, (omega arith, tt)))))
 
+pub counts-few : (n : ℕ) → among setCounts n ≡ true → n ≤ 16
+counts-few n h = among-every (λ m. m ≤ 16) setCounts n h (omega arith, (omega arith, (omega arith, (omega arith, (omega arith, tt)))))
+
 -- an input is accepted where the call's answer carries no refusal's number
 pub accepted : (i : Input) → outcomeSays (outcome i) .number ≡ 0 → Checked i
 unfolding outcome verdict reasons
 accepted i h =
-    let (w, (n, (k, (t, (a, (g, (r, _))))))) = none-applies (reasons i) (says (first (reasons i)) h) in
+    let (w, (n, (v, (k, (t, (a, (g, (r, _)))))))) = none-applies (reasons i) (says (first (reasons i)) h) in
     let ways = within 1 16 (i .ways) w in
     let sets = not-false _ n in
+    let revision = within 1 2 (i .revision) v in
     let limit = within 1 64 (i .limit) k in
     let g₁ = not-left (unnumbered || uneven) broken g in
     let count = within 1 64 (nodes i) (not-left unnumbered uneven g₁) in
@@ -93,6 +101,9 @@ accepted i h =
       few-ways = ways .1;
       known-sets = sets;
       some-sets = counts-some (i .sets) sets;
+      few-sets = counts-few (i .sets) sets;
+      low-revision = revision .0;
+      high-revision = revision .1;
       some-states = limit .0;
       few-states = limit .1;
       few-tracked = ltb-false 16 (length (i .tracked)) (not-left crowded twice t);
@@ -223,10 +234,10 @@ unfolding predecessors
 predecessors-rise i ok j =
     in-order-rises byNumber (predecessors (edgesOf (i .edges)) j)
     (go (edgesOf (i .edges))
-    (rises-in-order edgeOrder (two-onward (λ e. e .to) (λ e. e .from)) (edgesOf (i .edges)) (edges-are (nodes i) (i .edges) (ok .edges-kept) .1)))
+    (rises-in-order edgeOrder (then-by _ (by-number (λ e. e .to)) _ (by-number (λ e. e .from)) .onward) (edgesOf (i .edges)) (edges-are (nodes i) (i .edges) (ok .edges-kept) .1)))
   where
     behind : (e f : Edge) → e .to ≡ f .to → edgeOrder e f ≡ before → byNumber (e .from) (f .from) ≡ before
-    behind e f t b = number-before (e .from) (f .from) (⊎-elim (λ l. absurd (omega arith)) (λ l. l .1) (two-before (λ e. e .to) (λ e. e .from) e f b))
+    behind e f t b = rw (number-same (e .to) (f .to) t) at b
 
     later : (e : Edge) → e .to ≡ j → (es : List Edge) → Every (λ f. edgeOrder e f ≡ before) es → Every (λ a. byNumber (e .from) a ≡ before) (predecessors es j)
     later e t [] h = tt

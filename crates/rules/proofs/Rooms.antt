@@ -16,7 +16,7 @@ use Rattle.rules.specs.Units.{units}
 use Rattle.rules.specs.Contents.{Last}
 use Rattle.rules.specs.Input.{Input, inputIn, inputOf, runOf, edgesOf, predecessors}
 use Rattle.rules.specs.Table.{Work}
-use Rattle.rules.specs.Graph.{Worked, tableAt, enter, lastBefore, nodeLast, lastsTo, node, worked, finished}
+use Rattle.rules.specs.Graph.{Worked, tableAt, atStart, enter, lastBefore, nodeLast, lastsTo, node, worked, finished}
 use Rattle.rules.specs.Run.{run}
 use Rattle.rules.specs.Refusals.{outside, reasons, verdict, answered, outcome}
 use Rattle.rules.proofs.Refusals.{within}
@@ -32,12 +32,12 @@ module _ (c : Cache) (K : ℕ) (ts ns bs es : List ℕ) (r w : ℕ) where
   same-lasts (suc n) = ap (λ (ls : List Last). ls ++ (nodeLast (inputIn c K ts ns bs es r w) n ls ∷ [])) (same-lasts n)
 
   pub same-worked : (n : ℕ) → worked (inputOf c K ts ns bs es) n ≡ worked (inputIn c K ts ns bs es r w) n
-  unfolding worked node runOf
+  unfolding worked node atStart runOf
   same-worked zero = refl
   same-worked (suc n) =
       ap₂
       (λ (d : Worked) (ls : List Last). let ps = predecessors (edgesOf es) n in
-      let v = run (c .ways) (c .sets) K ts (lastBefore ls ps) (runOf (inputOf c K ts ns bs es) n) (enter K d ps) in
+      let v = run (c .ways) (c .sets) K ts (lastBefore ls ps) (runOf (inputOf c K ts ns bs es) n) (enter K (atStart (inputOf c K ts ns bs es)) d ps) in
       record { tables = d .tables ++ (v .table ∷ []); aside = v .aside }) (same-worked n) (same-lasts n)
 
   pub same-finished : finished (inputOf c K ts ns bs es) ≡ finished (inputIn c K ts ns bs es r w)

@@ -1,24 +1,26 @@
 -- The tracked blocks of a set: the mask of those that pass a test, bit by bit; a place belongs to one set only, so a block that comes in
--- takes room in its own set alone; and with one set every block is in it.
+-- takes room in its own set alone; what a miss can evict; and with one set every block is in it.
 use mathlib.Core.Path.{_≡_, refl, sym, ap, _∙_}
 use mathlib.Core.Logic.{_≢_, _⊎_, inl, inr}
 use mathlib.Core.Bool.{Bool, true, false, cond, true≢false}
 use mathlib.Core.List.{List, [], _∷_, _++_, map}
 use Prim.Native.Nat.{ℕ, zero, suc, _+_, _-_, _*_, _/_, _%_, _^_, _≤_, _<_}
-use native.Mathlib.Nat.{le-trans, le-of-suc-le-suc, not-suc-le-zero, mod-one}
+use native.Mathlib.Nat.{le-trans, le-of-suc-le-suc, not-suc-le-zero, le-max-left, max-le, mod-lt, mod-one}
 use native.Mathlib.Decide.{ℕ-discrete}
 use native.Mathlib.Omega.{arith}
-use lib.Dec.{eqb}
+use lib.Dec.{eqb, ltb}
 use lib.ListN.{length, getD}
-use borrow.Author.Tests.{eqb-true, eq-eqb, ne-eqb}
+use borrow.Author.Tests.{eqb-true, eq-eqb, ne-eqb, ltb-true, ltb-false, lt-ltb, le-ltb}
 use Rattle.basics.proofs.Bools.{both, same-test}
-use Rattle.rules.specs.Contents.{places, Place, Target, Last, at, bit, with, without, shared, held, size, maskOf, ofSet, targetOf, atRisk}
+use Rattle.rules.specs.Contents.{places, Target, Last, at, bit, with, without, shared, held, size, maskOf, ofSet, targetOf}
+use Rattle.rules.specs.Filling.{Filled, filledAt, fillOne, fullest}
 use Rattle.rules.specs.Table.{State, unitsOf}
-use Rattle.rules.specs.Step.{missed, restOf, miss}
+use Rattle.rules.specs.Step.{atRisk, missed, restOf, miss}
 use Rattle.rules.specs.Shape.{Aimed, Room}
 use Rattle.rules.proofs.Bits.{bit-low, bit-rest, bit-and, bit-zero, bit-below, bits-same}
 use Rattle.rules.proofs.Contents.{Sub, with-keeps, with-cases, with-new, without-keeps, without-gone, sub-without, size-zero, size-sub, size-with, size-moved, sub-shared-left, sub-shared-right, shared-lt}
 use Rattle.rules.proofs.Lookup.{find-at}
+use Rattle.rules.proofs.Filling.{one-more, no-more, one-other, most-filled, fullest-at}
 
 -- ---- the mask of the blocks that pass a test
 
@@ -66,10 +68,11 @@ module _ (Z : ℕ) (ts : List ℕ) where
   one-set-only : (j k i : ℕ) → bit (ofSet Z ts j) i ≡ true → bit (ofSet Z ts k) i ≡ true → j ≡ k
   one-set-only j k i p q = sym (in-set j i p .1) ∙ in-set k i q .1
 
-  pub aimed : (l : Last) (b : ℕ) → Aimed Z ts (targetOf Z ts l b)
+  pub aimed : 0 < Z → Z ≤ 16 → (l : Last) (b : ℕ) → Aimed Z ts (targetOf Z ts l b)
   unfolding targetOf
-  aimed l b =
+  aimed some few l b =
       record {
+        near = le-trans (mod-lt b some) few;
         placed = λ i e. find-at ts b i e .0;
         own = λ i e. let (k, g) = find-at ts b i e in bit-set (b % Z) i k ∙ eq-eqb _ _ (ap (_% Z) g);
         beside = refl;
@@ -84,49 +87,75 @@ both-shared C D i p q = bit-and i C D ∙ both (bit C i) (bit D i) p q
 pub sub-shared : (C D E : ℕ) → Sub C D → Sub (shared C E) (shared D E)
 sub-shared C D E s i h = both-shared D E i (s i (sub-shared-left C E i h)) (sub-shared-right C E i h)
 
--- what a miss can evict is held, and of more contents it is more
-pub risk-sub : (x : Target) (C : ℕ) → Sub (atRisk x C) C
-unfolding atRisk
-risk-sub x C = sub-shared-left C (x .mates)
+-- ---- what a miss can evict
 
-pub risk-more : (x : Target) (C D : ℕ) → Sub C D → Sub (atRisk x C) (atRisk x D)
-unfolding atRisk
-risk-more x C D s = sub-shared C D (x .mates) s
+module _ (N : ℕ) (x : Target) where
+  -- nothing while not every way of the set may be filled, then the held blocks of the set
+  pub risk-none : (F : Filled) (C : ℕ) → filledAt F (x .set) < N → atRisk N x F C ≡ 0
+  unfolding atRisk
+  risk-none F C l = rw (lt-ltb (filledAt F (x .set)) N l)
 
--- a block that can be evicted can be from any contents that hold it
-pub risk-in : (x : Target) (D i C : ℕ) → bit (atRisk x D) i ≡ true → bit C i ≡ true → bit (atRisk x C) i ≡ true
-unfolding atRisk
-risk-in x D i C h e = both-shared C (x .mates) i e (sub-shared-right D (x .mates) i h)
+  pub risk-set : (F : Filled) (C : ℕ) → N ≤ filledAt F (x .set) → atRisk N x F C ≡ shared C (x .mates)
+  unfolding atRisk
+  risk-set F C l = rw (le-ltb (filledAt F (x .set)) N l)
+
+  -- so where a block can be evicted every way may be filled, and it is a held block of the set
+  pub risk-full : (F : Filled) (C e : ℕ) → bit (atRisk N x F C) e ≡ true → (N ≤ filledAt F (x .set)) × (bit (shared C (x .mates)) e ≡ true)
+  unfolding atRisk
+  risk-full F C e = go (ltb (filledAt F (x .set)) N) refl
+    where
+      go : (b : Bool) → ltb (filledAt F (x .set)) N ≡ b → bit (cond b 0 (shared C (x .mates))) e ≡ true
+          → (N ≤ filledAt F (x .set)) × (bit (shared C (x .mates)) e ≡ true)
+      go true q h = absurd (true≢false (sym h ∙ bit-zero e))
+      go false q h = (ltb-false (filledAt F (x .set)) N q, h)
+
+  pub risk-sub : (F : Filled) (C : ℕ) → Sub (atRisk N x F C) C
+  risk-sub F C e h = sub-shared-left C (x .mates) e (risk-full F C e h .1)
 
 -- ---- room in each set
 
 module _ (N Z : ℕ) (ts : List ℕ) where
-  pub room-sub : (C D : ℕ) → Sub C D → Room N Z ts D → Room N Z ts C
-  room-sub C D s r j = le-trans (size-sub _ _ (sub-shared C D (ofSet Z ts j) s)) (r j)
+  pub room-zero : (F : Filled) → ((j : ℕ) → filledAt F j ≤ N) → Room N Z ts 0 F
+  room-zero F most j = (omega (arith, size-sub _ 0 (sub-shared-left 0 (ofSet Z ts j)), size-zero), most j)
 
-  pub room-zero : Room N Z ts 0
-  room-zero j = omega (arith, size-sub _ 0 (sub-shared-left 0 (ofSet Z ts j)), size-zero)
+  -- what two share, where the larger number of each set may be filled
+  pub room-shared : (C D : ℕ) (F G : Filled) → Room N Z ts C F → Room N Z ts D G → Room N Z ts (shared C D) (fullest F G)
+  room-shared C D F G r q j =
+      rw (fullest-at F G j) (
+        le-trans (size-sub _ _ (sub-shared (shared C D) C (ofSet Z ts j) (sub-shared-left C D))) (le-trans (r j .0) (le-max-left (filledAt F j) (filledAt G j))),
+        max-le (r j .1) (q j .1),
+      )
 
-  module _ (x : Target) (aim : Aimed Z ts x) where
-    pub room-risk : (C : ℕ) → Room N Z ts C → size (atRisk x C) ≤ N
+  module _ (few : N ≤ 16) (x : Target) (aim : Aimed Z ts x) where
+    abbrev more : Filled → Filled
+    more F = fillOne N (x .set) F
+
+    pub room-risk : (C : ℕ) (F : Filled) → Room N Z ts C F → size (atRisk N x F C) ≤ N
     unfolding atRisk
-    room-risk C r = rw (aim .beside) (r (x .set))
+    room-risk C F r = go (ltb (filledAt F (x .set)) N)
+      where
+        go : (b : Bool) → size (cond b 0 (shared C (x .mates))) ≤ N
+        go true = omega (arith, size-zero)
+        go false = rw (aim .beside) (le-trans (r (x .set) .0) (r (x .set) .1))
 
     -- a set other than the block's has what it had
-    elsewhere : (C D j : ℕ) → j ≢ x .set → Sub C D → Sub (shared (with C (x .place)) (ofSet Z ts j)) (shared D (ofSet Z ts j))
-    elsewhere C D j n s i h = go (with-cases C (x .place) i (sub-shared-left _ _ i h))
+    elsewhere : (C D j : ℕ) (F : Filled) → j ≢ x .set → Sub C D → Room N Z ts D F
+        → (size (shared (with C (x .place)) (ofSet Z ts j)) ≤ filledAt (more F) j) × (filledAt (more F) j ≤ N)
+    elsewhere C D j F n s r = rw (one-other N few (x .set) (aim .near) F j n) (le-trans (size-sub _ _ inside) (r j .0), r j .1)
       where
-        there : bit (ofSet Z ts j) i ≡ true
-        there = sub-shared-right _ _ i h
+        inside : Sub (shared (with C (x .place)) (ofSet Z ts j)) (shared D (ofSet Z ts j))
+        inside i h = go (with-cases C (x .place) i (sub-shared-left _ _ i h))
+          where
+            there : bit (ofSet Z ts j) i ≡ true
+            there = sub-shared-right _ _ i h
 
-        go : (bit C i ≡ true) ⊎ (x .place ≡ at i) → bit (shared D (ofSet Z ts j)) i ≡ true
-        go (inl e) = both-shared D _ i (s i e) there
-        go (inr e) = absurd (n (one-set-only Z ts j (x .set) i there (rw (aim .beside) at (aim .own i e))))
+            go : (bit C i ≡ true) ⊎ (x .place ≡ at i) → bit (shared D (ofSet Z ts j)) i ≡ true
+            go (inl e) = both-shared D _ i (s i e) there
+            go (inr e) = absurd (n (one-set-only Z ts j (x .set) i there (rw (aim .beside) at (aim .own i e))))
 
     -- the block comes in where its set has room for it
-    pub room-joined : (C : ℕ) → Room N Z ts C → size (atRisk x C) < N → Room N Z ts (with C (x .place))
-    unfolding atRisk
-    room-joined C r l j = go (ℕ-discrete j (x .set))
+    pub room-joined : (C : ℕ) (F : Filled) → Room N Z ts C F → size (atRisk N x F C) < N → Room N Z ts (with C (x .place)) (more F)
+    room-joined C F r l j = go (ℕ-discrete j (x .set)) (ltb (filledAt F (x .set)) N) refl
       where
         G : ℕ
         G = ofSet Z ts j
@@ -138,22 +167,37 @@ module _ (N Z : ℕ) (ts : List ℕ) where
             pick (inl e) = with-keeps (shared C G) (x .place) i (both-shared C G i e (sub-shared-right _ _ i h))
             pick (inr e) = rw e (with-new (shared C G) i)
 
-        go : Dec (j ≡ x .set) → size (shared (with C (x .place)) G) ≤ N
-        go (yes e) =
-            let same : shared C G ≡ shared C (x .mates) = ap (shared C) (ap (ofSet Z ts) e ∙ sym (aim .beside)) in
-            omega (arith, size-sub _ _ here, size-with (shared C G) (x .place), ap size same)
-        go (no n) = le-trans (size-sub _ _ (elsewhere C C j n (λ i e. e))) (r j)
+        one : size (shared (with C (x .place)) G) ≤ suc (size (shared C G))
+        one = le-trans (size-sub _ _ here) (size-with (shared C G) (x .place))
+
+        most : filledAt (more F) j ≤ N
+        most = most-filled N few (x .set) (aim .near) F j (r j .1)
+
+        go : Dec (j ≡ x .set) → (b : Bool) → ltb (filledAt F (x .set)) N ≡ b
+            → (size (shared (with C (x .place)) G) ≤ filledAt (more F) j) × (filledAt (more F) j ≤ N)
+        go (yes e) true q =
+            let up : filledAt (more F) j ≡ suc (filledAt F j) = rw e (one-more N few (x .set) (aim .near) F (ltb-true (filledAt F (x .set)) N q)) in
+            (omega (arith, one, r j .0, up), most)
+        go (yes e) false q =
+            let full : N ≤ filledAt F (x .set) = ltb-false (filledAt F (x .set)) N q in
+            let same : shared C G ≡ atRisk N x F C = ap (shared C) (ap (ofSet Z ts) e ∙ sym (aim .beside)) ∙ sym (risk-set N x F C full) in
+            let stays : filledAt (more F) j ≡ filledAt F (x .set) = rw (no-more N few (x .set) (aim .near) F full, e) in
+            (omega (arith, one, ap size same, full, stays), most)
+        go (no n) b q = elsewhere C C j F n (λ i e. e) r
 
     -- or for a block of its set that goes
-    pub room-moved : (C e : ℕ) → Room N Z ts C → e < places → bit (atRisk x C) e ≡ true → Room N Z ts (with (without C e) (x .place))
-    unfolding atRisk
-    room-moved C e r l h j = go (ℕ-discrete j (x .set))
+    pub room-moved : (C e : ℕ) (F : Filled) → Room N Z ts C F → e < places → bit (atRisk N x F C) e ≡ true
+        → Room N Z ts (with (without C e) (x .place)) (more F)
+    room-moved C e F r l h j = go (ℕ-discrete j (x .set))
       where
         G : ℕ
         G = ofSet Z ts j
 
+        full : N ≤ filledAt F (x .set)
+        full = risk-full N x F C e h .0
+
         held-there : bit C e ≡ true
-        held-there = sub-shared-left C (x .mates) e h
+        held-there = risk-sub N x F C e h
 
         here : Sub (shared (with (without C e) (x .place)) G) (with (without (shared C G) e) (x .place))
         here i t = pick (with-cases (without C e) (x .place) i (sub-shared-left _ _ i t))
@@ -165,36 +209,40 @@ module _ (N Z : ℕ) (ts : List ℕ) where
                 (both-shared C G i (sub-without C e held-there i q) (sub-shared-right _ _ i t)))
             pick (inr q) = rw q (with-new (without (shared C G) e) i)
 
-        go : Dec (j ≡ x .set) → size (shared (with (without C e) (x .place)) G) ≤ N
+        go : Dec (j ≡ x .set) → (size (shared (with (without C e) (x .place)) G) ≤ filledAt (more F) j) × (filledAt (more F) j ≤ N)
         go (yes q) =
-            let there : bit (shared C G) e ≡ true = rw (q, ← aim .beside) h in
-            le-trans (size-sub _ _ here) (le-trans (size-moved (shared C G) e (x .place) l there) (r j))
-        go (no n) = le-trans (size-sub _ _ (elsewhere (without C e) C j n (sub-without C e held-there))) (r j)
+            let there : bit (shared C G) e ≡ true = rw (q, ← aim .beside) (risk-full N x F C e h .1) in
+            rw (no-more N few (x .set) (aim .near) F full)
+            (le-trans (size-sub _ _ here) (le-trans (size-moved (shared C G) e (x .place) l there) (r j .0)), r j .1)
+        go (no n) = elsewhere (without C e) C j F n (sub-without C e held-there) r
 
     -- nothing held but the block
-    pub room-alone : 0 < N → Room N Z ts (with 0 (x .place))
-    room-alone some = room-joined 0 room-zero (omega (arith, size-sub _ 0 (risk-sub x 0), size-zero))
+    pub room-alone : 0 < N → (C : ℕ) (F : Filled) → Room N Z ts C F → Room N Z ts (with 0 (x .place)) (more F)
+    room-alone some C F r =
+        room-joined 0 F (room-zero F (λ j. r j .1)) (omega (arith, size-sub _ 0 (risk-sub N x F 0), size-zero))
 
--- ---- one set
+-- ---- one set, every way of which may be filled, as in the first revision
 
 -- every held block can be evicted
-pub one-set-risk : (ts : List ℕ) (l : Last) (b C : ℕ) → C < 2 ^ length ts → atRisk (targetOf 1 ts l b) C ≡ C
-unfolding atRisk targetOf
-one-set-risk ts l b C h =
-    bits-same (length ts) _ C (shared-lt (length ts) C _ h) h
+pub one-set-risk : (N : ℕ) (ts : List ℕ) (l : Last) (b C : ℕ) (F : Filled) → N ≤ filledAt F 0 → C < 2 ^ length ts
+    → atRisk N (targetOf 1 ts l b) F C ≡ C
+unfolding targetOf
+one-set-risk N ts l b C F full h =
+    risk-set N (targetOf 1 ts l b) F C (rw (mod-one b) full)
+    ∙ bits-same (length ts) _ C (shared-lt (length ts) C _ h) h
     (λ i k. same-test _ _ (sub-shared-left C _ i)
     (λ e. both-shared C _ i e (bit-set 1 ts (b % 1) i k ∙ eq-eqb _ _ (mod-one (getD ts i 0) ∙ sym (mod-one b)))))
 
 -- so that a miss is document 01's: each held block is lost with q units, the rest of the N ways lose none, and the units that are left
 -- over go to the accessed block only (where nothing is held, that is with the others)
-pub one-set-miss : (N : ℕ) (ts : List ℕ) (l : Last) (b : ℕ) (s : State) → s .mask < 2 ^ length ts
+pub one-set-miss : (N : ℕ) (ts : List ℕ) (l : Last) (b : ℕ) (s : State) → N ≤ filledAt (s .filled) 0 → s .mask < 2 ^ length ts
     → miss N (targetOf 1 ts l b) s
-    ≡ map (λ e. missed (targetOf 1 ts l b) s (without (s .mask) e) (unitsOf s / N)) (held (s .mask))
-    ++ missed (targetOf 1 ts l b) s (s .mask) ((N - size (s .mask)) * (unitsOf s / N))
-    ∷ missed (targetOf 1 ts l b) s 0 (unitsOf s % N)
+    ≡ map (λ e. missed N (targetOf 1 ts l b) s (without (s .mask) e) (unitsOf s / N)) (held (s .mask))
+    ++ missed N (targetOf 1 ts l b) s (s .mask) ((N - size (s .mask)) * (unitsOf s / N))
+    ∷ missed N (targetOf 1 ts l b) s 0 (unitsOf s % N)
     ∷ []
 unfolding miss
-one-set-miss N ts l b s h = rw (one-set-risk ts l b (s .mask) h, none (s .mask))
+one-set-miss N ts l b s full h = rw (one-set-risk N ts l b (s .mask) (s .filled) full h, none (s .mask))
   where
     none : (C : ℕ) → restOf C C ≡ 0
     none zero = refl

@@ -6,7 +6,7 @@ use mathlib.Core.Logic.{_≢_}
 use mathlib.Core.Bool.{Bool, true, false, cond, _||_}
 use mathlib.Core.List.{List, [], _∷_, _++_, map, flatMap}
 use Prim.Native.Nat.{ℕ, suc, _+_, _-_, _*_, _/_, _%_, _^_, _≤_, _<_}
-use native.Mathlib.Nat.{le-trans, le-step, suc-le-suc-iff, pos-of-ne-zero, div-add-mod, eq-of-mul-eq-mul-left}
+use native.Mathlib.Nat.{le-step, suc-le-suc-iff, pos-of-ne-zero, div-add-mod, eq-of-mul-eq-mul-left}
 use native.Mathlib.Decide.{decLt}
 use native.Mathlib.Omega.{arith}
 use lib.Dec.{eqb}
@@ -15,17 +15,18 @@ use lib.Pow.{pow-pos}
 use borrow.Author.Tests.{eqb-true, eq-eqb}
 use Rattle.basics.specs.Sums.{sumOver}
 use Rattle.basics.proofs.Sums.{sum-append, sum-map, sum-times, sum-each, on-none}
-use Rattle.rules.specs.Contents.{places, Target, bit, hits, with, without, held, size, atRisk}
+use Rattle.rules.specs.Contents.{places, Target, bit, hits, with, without, held, size}
+use Rattle.rules.specs.Filling.{Filled, fillOne}
 use Rattle.rules.specs.Units.{whole}
 use Rattle.rules.specs.Table.{State, unitsOf, plus, present, total}
-use Rattle.rules.specs.Step.{missed, restOf, miss, successors, leftOver, access}
+use Rattle.rules.specs.Step.{atRisk, missed, restOf, miss, successors, leftOver, access}
 use Rattle.rules.specs.Shape.{Every, Aimed, Room, Shaped}
 use Rattle.rules.proofs.Splitting.{more-least}
 use Rattle.rules.proofs.Lists.{every-append, every-map, every-flatMap}
 use Rattle.rules.proofs.Bits.{bit-zero}
 use Rattle.rules.proofs.Contents.{sum-held, size-zero, every-held, with-lt, without-lt}
 use Rattle.rules.proofs.Sets.{risk-sub, room-joined, room-moved, room-alone}
-use Rattle.rules.proofs.Table.{length-present-append, length-present, every-add, worthOf, worth, worth-add, total-add, one, worth-total}
+use Rattle.rules.proofs.Table.{length-present-append, length-present, every-add, Weight, worthOf, worth, worth-add, total-add, one, worth-total}
 
 -- ---- worth
 
@@ -33,9 +34,11 @@ use Rattle.rules.proofs.Table.{length-present-append, length-present, e
 abbrev pub overWays : ℕ → ℕ → ℕ → (ℕ → ℕ) → ℕ
 overWays N C E g = sumOver (λ e. g (without C e)) (held E) + (N - size E) * g C
 
--- what contents C with m misses are worth before an access of x, summed over the N ways, where f says what they are worth after it
-abbrev pub ahead : ℕ → Target → (ℕ → ℕ → ℕ) → ℕ → ℕ → ℕ
-ahead N x f C m = cond (hits x C) (N * f C m) (overWays N C (atRisk x C) (λ D. f (with D (x .place)) (suc m)))
+-- what contents C with m misses and F filled are worth before an access of x, summed over the N ways, where f says what they are worth
+-- after it
+abbrev pub ahead : ℕ → Target → Weight → Weight
+ahead N x f C m F =
+    cond (hits x C) (N * f C m F) (overWays N C (atRisk N x F C) (λ D. f (with D (x .place)) (suc m) (fillOne N (x .set) F)))
 
 -- where no block can go, every way leaves C
 pub overWays-none : (N C : ℕ) (g : ℕ → ℕ) → overWays N C 0 g ≡ N * g C
@@ -46,34 +49,34 @@ overWays-none N C g =
     ring : (d : ℕ) → d ≡ N → 0 + d * g C ≡ N * g C
     ring d e = rw e (omega arith)
 
-module _ (N : ℕ) (x : Target) (f : ℕ → ℕ → ℕ) where
+module _ (N : ℕ) (x : Target) (f : Weight) where
   -- ahead of a state, and of the units that are left over
   abbrev pub aheadOf : State → ℕ
-  aheadOf s = ahead N x f (s .mask) (s .misses)
+  aheadOf s = ahead N x f (s .mask) (s .misses) (s .filled)
 
   abbrev pub alone : State → ℕ
-  alone s = f (with 0 (x .place)) (suc (s .misses))
+  alone s = f (with 0 (x .place)) (suc (s .misses)) (fillOne N (x .set) (s .filled))
 
   worth-miss : (s : State) → worth f (miss N x s)
-      ≡ overWays N (s .mask) (atRisk x (s .mask)) (λ D. f (with D (x .place)) (suc (s .misses))) * (unitsOf s / N)
-      + unitsOf s % N * f (with (restOf (s .mask) (atRisk x (s .mask))) (x .place)) (suc (s .misses))
+      ≡ overWays N (s .mask) (atRisk N x (s .filled) (s .mask)) (λ D. f (with D (x .place)) (suc (s .misses)) (fillOne N (x .set) (s .filled))) * (unitsOf s / N)
+      + unitsOf s % N * f (with (restOf (s .mask) (atRisk N x (s .filled) (s .mask))) (x .place)) (suc (s .misses)) (fillOne N (x .set) (s .filled))
   unfolding miss
   worth-miss s =
-      sum-append (worthOf f) (map (λ e. missed x s (without C e) q) (held E)) _
-      ∙ ap₂ _+_ (sum-map (worthOf f) (λ e. missed x s (without C e) q) (held E) ∙ sum-times q (λ e. g (without C e)) (held E)) refl
+      sum-append (worthOf f) (map (λ e. missed N x s (without C e) q) (held E)) _
+      ∙ ap₂ _+_ (sum-map (worthOf f) (λ e. missed N x s (without C e) q) (held E) ∙ sum-times q (λ e. g (without C e)) (held E)) refl
       ∙ ring (N - size E) (sumOver (λ e. g (without C e)) (held E)) (g C) (unitsOf s % N * g (restOf C E))
     where
       C : ℕ
       C = s .mask
 
       E : ℕ
-      E = atRisk x C
+      E = atRisk N x (s .filled) C
 
       q : ℕ
       q = unitsOf s / N
 
       g : ℕ → ℕ
-      g D = f (with D (x .place)) (suc (s .misses))
+      g D = f (with D (x .place)) (suc (s .misses)) (fillOne N (x .set) (s .filled))
 
       ring : (d S y r : ℕ) → S * q + (d * q * y + (r + 0)) ≡ (S + d * y) * q + r
       ring d S y r = omega arith
@@ -87,7 +90,7 @@ module _ (N : ℕ) (x : Target) (f : ℕ → ℕ → ℕ) where
       C = s .mask
 
       E : ℕ
-      E = atRisk x C
+      E = atRisk N x (s .filled) C
 
       q : ℕ
       q = unitsOf s / N
@@ -96,13 +99,13 @@ module _ (N : ℕ) (x : Target) (f : ℕ → ℕ → ℕ) where
       r = unitsOf s % N
 
       g : ℕ → ℕ
-      g D = f (with D (x .place)) (suc (s .misses))
+      g D = f (with D (x .place)) (suc (s .misses)) (fillOne N (x .set) (s .filled))
 
       S : ℕ
       S = overWays N C E g
 
       y : ℕ
-      y = f C (s .misses)
+      y = f C (s .misses) (s .filled)
 
       all : N * q + r ≡ unitsOf s
       all = div-add-mod (unitsOf s) N
@@ -142,7 +145,7 @@ module _ (N : ℕ) (x : Target) (f : ℕ → ℕ → ℕ) where
 
 -- no contents hold more blocks of the accessed set than it has ways
 abbrev pub Fits : ℕ → Target → List State → Type 0
-Fits N x T = Every (λ s. size (atRisk x (s .mask)) ≤ N) T
+Fits N x T = Every (λ s. size (atRisk N x (s .filled) (s .mask)) ≤ N) T
 
 -- the ways that are left, as a number of its own, so that no difference is multiplied
 pub others : (N n : ℕ) → n ≤ N → (r : ℕ) × (N ≡ n + r) × (N - n ≡ r)
@@ -155,12 +158,12 @@ overWays-each N C E y h =
     let (r, e, d) = others N (length (held E)) h in
     rw d (omega (arith, sum-each y (held E), ap (λ (n : ℕ). n * y) e))
 
-ahead-one : (N : ℕ) (x : Target) (C m : ℕ) → size (atRisk x C) ≤ N → ahead N x one C m ≡ N
-ahead-one N x C m h = go (hits x C)
+ahead-one : (N : ℕ) (x : Target) (C m : ℕ) (F : Filled) → size (atRisk N x F C) ≤ N → ahead N x one C m F ≡ N
+ahead-one N x C m F h = go (hits x C)
   where
-    go : (a : Bool) → cond a (N * 1) (overWays N C (atRisk x C) (λ D. 1)) ≡ N
+    go : (a : Bool) → cond a (N * 1) (overWays N C (atRisk N x F C) (λ D. 1)) ≡ N
     go true = omega arith
-    go false = overWays-each N C (atRisk x C) 1 h ∙ omega arith
+    go false = overWays-each N C (atRisk N x F C) 1 h ∙ omega arith
 
 module _ (N : ℕ) (x : Target) (some : 0 < N) where
   -- all units go on
@@ -171,12 +174,12 @@ module _ (N : ℕ) (x : Target) (some : 0 < N) where
     where
       units : (T : List State) → Fits N x T → worth (ahead N x one) T ≡ N * worth one T
       units [] h = omega arith
-      units (s ∷ T) h = rw (ahead-one N x (s .mask) (s .misses) (h .0)) (omega (arith, units T (h .1)))
+      units (s ∷ T) h = rw (ahead-one N x (s .mask) (s .misses) (s .filled) (h .0)) (omega (arith, units T (h .1)))
 
       shares : (T : List State) → Fits N x T
           → sumOver (λ s. leftOver N x s * aheadOf N x one s) T ≡ N * sumOver (λ s. leftOver N x s * 1) T
       shares [] h = omega arith
-      shares (s ∷ T) h = rw (ahead-one N x (s .mask) (s .misses) (h .0)) (omega (arith, shares T (h .1)))
+      shares (s ∷ T) h = rw (ahead-one N x (s .mask) (s .misses) (s .filled) (h .0)) (omega (arith, shares T (h .1)))
 
   module _ (T : List State) (fits : Fits N x T) (full : total T ≤ whole) where
     room-to-add : total (flatMap (successors N x) T) + total [] ≤ whole
@@ -184,7 +187,7 @@ module _ (N : ℕ) (x : Target) (some : 0 < N) where
     room-to-add = omega (arith, successors-total T fits)
 
     -- what the table is worth to the access ahead, and N times what it is worth after it
-    pub worth-access : (f : ℕ → ℕ → ℕ)
+    pub worth-access : (f : Weight)
         → N * worth f (access N x T) + sumOver (λ s. leftOver N x s * aheadOf N x f s) T
         ≡ worth (ahead N x f) T + N * sumOver (λ s. leftOver N x s * alone N x f s) T
     unfolding access
@@ -201,13 +204,13 @@ module _ (N : ℕ) (x : Target) (some : 0 < N) where
 pub shaped-plus : (N Z : ℕ) (ts : List ℕ) (M : ℕ) (t s : State) → Shaped N Z ts M t → Shaped N Z ts M (plus t s)
 shaped-plus N Z ts M t s h = (record { masked = h .0 .masked; few = h .0 .few; small = h .0 .small }, more-least (unitsOf t) (unitsOf s) (h .1))
 
-module _ (N Z : ℕ) (ts : List ℕ) (M : ℕ) (x : Target) (some : 0 < N) (aim : Aimed Z ts x) where
+module _ (N Z : ℕ) (ts : List ℕ) (M : ℕ) (x : Target) (some : 0 < N) (few : N ≤ 16) (aim : Aimed Z ts x) where
   -- a state of the list, if it has units
   abbrev After : State → Type 0
   After t = unitsOf t ≢ 0 → Shaped N Z ts (suc M) t
 
-  missed-shaped : (s : State) (C u : ℕ) → s .misses ≤ M → C < 2 ^ length ts → Room N Z ts (with C (x .place)) → u ≢ 0
-      → Shaped N Z ts (suc M) (missed x s C u)
+  missed-shaped : (s : State) (C u : ℕ) → s .misses ≤ M → C < 2 ^ length ts → Room N Z ts (with C (x .place)) (fillOne N (x .set) (s .filled)) → u ≢ 0
+      → Shaped N Z ts (suc M) (missed N x s C u)
   missed-shaped s C u m c r n =
       (record { masked = with-lt (length ts) C (x .place) c (aim .placed); few = suc-le-suc-iff .1 m; small = r }, pos-of-ne-zero n)
 
@@ -230,33 +233,33 @@ module _ (N Z : ℕ) (ts : List ℕ) (M : ℕ) (x : Target) (some : 0 < N) (aim 
       C = s .mask
 
       E : ℕ
-      E = atRisk x C
+      E = atRisk N x (s .filled) C
 
       q : ℕ
       q = unitsOf s / N
 
-      lost : Every After (map (λ e. missed x s (without C e) q) (held E))
+      lost : Every After (map (λ e. missed N x s (without C e) q) (held E))
       lost =
-          every-map (λ e. (e < places) × (bit E e ≡ true)) After (λ e. missed x s (without C e) q)
-          (λ e p. missed-shaped s (without C e) q (h .0 .few) (without-lt (length ts) C e (h .0 .masked) (risk-sub x C e (p .1)))
-          (room-moved N Z ts x aim C e (h .0 .small) (p .0) (p .1)))
+          every-map (λ e. (e < places) × (bit E e ≡ true)) After (λ e. missed N x s (without C e) q)
+          (λ e p. missed-shaped s (without C e) q (h .0 .few) (without-lt (length ts) C e (h .0 .masked) (risk-sub N x (s .filled) C e (p .1)))
+          (room-moved N Z ts few x aim C e (s .filled) (h .0 .small) (p .0) (p .1)))
           (held E) (every-held E)
 
-      kept : After (missed x s C ((N - size E) * q))
-      kept n = missed-shaped s C _ (h .0 .few) (h .0 .masked) (room-joined N Z ts x aim C (h .0 .small) (left E q n)) n
+      kept : After (missed N x s C ((N - size E) * q))
+      kept n = missed-shaped s C _ (h .0 .few) (h .0 .masked) (room-joined N Z ts few x aim C (s .filled) (h .0 .small) (left E q n)) n
 
-      rest : After (missed x s (restOf C E) (unitsOf s % N))
+      rest : After (missed N x s (restOf C E) (unitsOf s % N))
       rest n = where-to (eqb E 0) refl
         where
-          where-to : (z : Bool) → eqb E 0 ≡ z → Shaped N Z ts (suc M) (missed x s (cond z C 0) (unitsOf s % N))
+          where-to : (z : Bool) → eqb E 0 ≡ z → Shaped N Z ts (suc M) (missed N x s (cond z C 0) (unitsOf s % N))
           where-to true e =
               missed-shaped s C _ (h .0 .few) (h .0 .masked)
-              (room-joined N Z ts x aim C (h .0 .small) (omega (arith, ap size (eqb-true E 0 e), size-zero))) n
-          where-to false e = missed-shaped s 0 _ (h .0 .few) (pow-pos (length ts)) (room-alone N Z ts x aim some) n
+              (room-joined N Z ts few x aim C (s .filled) (h .0 .small) (omega (arith, ap size (eqb-true E 0 e), size-zero))) n
+          where-to false e = missed-shaped s 0 _ (h .0 .few) (pow-pos (length ts)) (room-alone N Z ts few x aim some C (s .filled) (h .0 .small)) n
 
-      go : (a : Bool) → Every After (cond a (s ∷ []) (map (λ e. missed x s (without C e) q) (held E) ++ missed x s C ((N - size E) * q) ∷ missed x s (restOf C E) (unitsOf s % N) ∷ []))
+      go : (a : Bool) → Every After (cond a (s ∷ []) (map (λ e. missed N x s (without C e) q) (held E) ++ missed N x s C ((N - size E) * q) ∷ missed N x s (restOf C E) (unitsOf s % N) ∷ []))
       go true = (λ n. (record { masked = h .0 .masked; few = le-step (h .0 .few); small = h .0 .small }, h .1), tt)
-      go false = every-append After (map (λ e. missed x s (without C e) q) (held E)) _ lost (kept, (rest, tt))
+      go false = every-append After (map (λ e. missed N x s (without C e) q) (held E)) _ lost (kept, (rest, tt))
 
   pub access-shaped : (T : List State) → Every (Shaped N Z ts M) T → Every (Shaped N Z ts (suc M)) (access N x T)
   unfolding access
@@ -267,7 +270,7 @@ module _ (N Z : ℕ) (ts : List ℕ) (M : ℕ) (x : Target) (some : 0 < N) (aim 
 -- ---- how many are listed
 
 module _ (N : ℕ) (x : Target) where
-  length-successors : (s : State) → size (atRisk x (s .mask)) ≤ N → length (present (successors N x s)) ≤ suc N
+  length-successors : (s : State) → size (atRisk N x (s .filled) (s .mask)) ≤ N → length (present (successors N x s)) ≤ suc N
   unfolding successors miss size
   length-successors s h = go (hits x (s .mask))
     where
@@ -275,19 +278,19 @@ module _ (N : ℕ) (x : Target) where
       C = s .mask
 
       E : ℕ
-      E = atRisk x C
+      E = atRisk N x (s .filled) C
 
       q : ℕ
       q = unitsOf s / N
 
       lost : List State
-      lost = map (λ e. missed x s (without C e) q) (held E)
+      lost = map (λ e. missed N x s (without C e) q) (held E)
 
       kept : State
-      kept = missed x s C ((N - size E) * q)
+      kept = missed N x s C ((N - size E) * q)
 
       rest : State
-      rest = missed x s (restOf C E) (unitsOf s % N)
+      rest = missed N x s (restOf C E) (unitsOf s % N)
 
       -- where all ways hold a block of E, no units go to contents that lose nothing
       gone : (d : ℕ) → d ≡ 0 → eqb (d * q) 0 ≡ true
@@ -304,7 +307,7 @@ module _ (N : ℕ) (x : Target) where
             arith,
             length-present-append lost (kept ∷ rest ∷ []),
             length-present lost,
-            length-map (held E) (λ e. missed x s (without C e) q),
+            length-map (held E) (λ e. missed N x s (without C e) q),
             last (decLt (size E) N),
           )
 

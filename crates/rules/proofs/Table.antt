@@ -1,6 +1,6 @@
 -- States added to a table: it keeps rising, it grows by no more states than are listed, each state keeps what adding does not
--- break, and it is worth what both were. The worth of a table is its units, each times a weight that goes with the contents and the
--- misses of its state: with the weight 1 the total, with others what a promise is about.
+-- break, and it is worth what both were. The worth of a table is its units, each times a weight that goes with the contents, the
+-- misses and the filled numbers of its state: with the weight 1 the total, with others what a promise is about.
 use mathlib.Core.Path.{_≡_, refl, sym, ap, ap₂, _∙_}
 use mathlib.Core.Logic.{_≢_}
 use mathlib.Core.Bool.{Bool, true, false, cond}
@@ -13,6 +13,7 @@ use borrow.Author.Tests.{eqb-true, eqb-false}
 use Rattle.basics.specs.Sums.{sumOver}
 use Rattle.rules.specs.Units.{whole}
 use Rattle.rules.specs.Ordered.{same, insert, insertAll, remove}
+use Rattle.rules.specs.Filling.{Filled}
 use Rattle.rules.specs.Table.{State, unitsOf, order, rising, plus, present, add, total, stateAt}
 use Rattle.rules.specs.Shape.{Every}
 use Rattle.rules.proofs.Splitting.{more-adds}
@@ -92,22 +93,30 @@ add-append S S′ T = ap (λ (X : List State). insertAll order plus X T) (presen
 
 -- ---- worth
 
-abbrev pub worthOf : (ℕ → ℕ → ℕ) → State → ℕ
-worthOf f s = unitsOf s * f (s .mask) (s .misses)
+-- a weight: of contents, misses and filled numbers
+abbrev pub Weight : Type 0
+Weight = ℕ → ℕ → Filled → ℕ
 
-abbrev pub worth : (ℕ → ℕ → ℕ) → List State → ℕ
+-- of a state
+abbrev pub weightOf : Weight → State → ℕ
+weightOf f s = f (s .mask) (s .misses) (s .filled)
+
+abbrev pub worthOf : Weight → State → ℕ
+worthOf f s = unitsOf s * weightOf f s
+
+abbrev pub worth : Weight → List State → ℕ
 worth f T = sumOver (worthOf f) T
 
 -- the weight 1 gives the total
-abbrev pub one : ℕ → ℕ → ℕ
-one C m = 1
+abbrev pub one : Weight
+one C m F = 1
 
 pub worth-total : (T : List State) → worth one T ≡ total T
 unfolding total
 worth-total [] = refl
 worth-total (s ∷ T) = omega (arith, worth-total T)
 
-worth-present : (f : ℕ → ℕ → ℕ) (S : List State) → worth f (present S) ≡ worth f S
+worth-present : (f : Weight) (S : List State) → worth f (present S) ≡ worth f S
 worth-present f [] = refl
 worth-present f (s ∷ S) = go (eqb (unitsOf s) 0) refl (worth-present f S)
   where
@@ -120,20 +129,20 @@ total-present : (S : List State) → total (present S) ≡ total S
 total-present S = sym (worth-total (present S)) ∙ worth-present one S ∙ worth-total S
 
 -- where there are no more units than WHOLE, no sum stops
-pub worth-add : (f : ℕ → ℕ → ℕ) (S T : List State) → total S + total T ≤ whole → worth f (add S T) ≡ worth f S + worth f T
+pub worth-add : (f : Weight) (S T : List State) → total S + total T ≤ whole → worth f (add S T) ≡ worth f S + worth f T
 unfolding add total
 worth-add f S T h =
     sum-insertAll order plus unitsOf whole (worthOf f) adds (λ s t e l. more-adds (unitsOf t) (unitsOf s) l) (present S) T (omega (arith, total-present S))
     ∙ ap (_+ worth f T) (worth-present f S)
   where
     adds : (s t : State) → order s t ≡ same → unitsOf t + unitsOf s ≤ whole → worthOf f (plus t s) ≡ worthOf f t + worthOf f s
-    adds s t e l = let (p, q) = order-same s t e in rw (p, q, more-adds (unitsOf t) (unitsOf s) l) (omega arith)
+    adds s t e l = let (p, q, r) = order-same s t e in rw (p, q, r, more-adds (unitsOf t) (unitsOf s) l) (omega arith)
 
 pub total-add : (S T : List State) → total S + total T ≤ whole → total (add S T) ≡ total S + total T
 total-add S T h = sym (worth-total (add S T)) ∙ worth-add one S T h ∙ ap₂ _+_ (worth-total S) (worth-total T)
 
 -- a state taken out; one that is not there has no units
-pub worth-remove : (f : ℕ → ℕ → ℕ) (i : ℕ) (T : List State) → worthOf f (stateAt T i) + worth f (remove i T) ≡ worth f T
+pub worth-remove : (f : Weight) (i : ℕ) (T : List State) → worthOf f (stateAt T i) + worth f (remove i T) ≡ worth f T
 unfolding remove
 worth-remove f i [] = omega arith
 worth-remove f zero (t ∷ T) = refl

@@ -3,7 +3,7 @@ use mathlib.Core.Bool.{Bool, cond}
 use mathlib.Core.List.{List, [], _∷_}
 use Prim.Native.Nat.{ℕ}
 use Rattle.rules.specs.declared.Refusal.{Refusal}
-use Rattle.rules.specs.declared.Refusal.the-variants.{Text, Ways, Limit, Tracked, Accesses, Graph, Room, Row, SpreadRoom, Sets, NoCore, TraceLength, TraceRoom}
+use Rattle.rules.specs.declared.Refusal.the-variants.{Text, Ways, Limit, Tracked, Accesses, Graph, Room, Row, SpreadRoom, Sets, Revision, NoCore, TraceLength, TraceRoom}
 use Rattle.rules.specs.declared.Verdict.{Verdict}
 use Rattle.rules.specs.declared.Verdict.the-variants.{Accepted, Refused}
 use Rattle.rules.specs.declared.Outcome.{Outcome}
@@ -29,6 +29,7 @@ numberOf Room = 6
 numberOf Row = 7
 numberOf SpreadRoom = 8
 numberOf Sets = 10
+numberOf Revision = 11
 numberOf NoCore = 16
 numberOf TraceLength = 12
 numberOf TraceRoom = 21

@@ -113,7 +113,3 @@ targetOf Z ts l b = record { place = find ts b; again = isLast l b; set = b % Z;
 -- whether it is surely a hit on contents C
 abbrev pub hits : Target → ℕ → Bool
 hits x C = has C (x .again) (x .place)
-
--- the blocks of C that a miss can evict: those of its own set
-unfoldable pub atRisk : Target → ℕ → ℕ
-atRisk x C = shared C (x .mates)

@@ -1,4 +1,4 @@
--- Folding: document 01, section 3.
+-- Folding: document 01, section 3; document 02, request 6/13.
 use mathlib.Core.Bool.{Bool, true, false, cond, _||_, _&&_}
 use mathlib.Core.List.{List, [], _∷_}
 use Prim.Native.Nat.{ℕ, zero, suc, _+_, _-_, max}
@@ -8,6 +8,7 @@ use Rattle.rules.specs.declared.Pair.{Pair}
 use Rattle.rules.specs.Units.{more}
 use Rattle.rules.specs.Contents.{size, shared}
 use Rattle.rules.specs.Ordered.{remove, best}
+use Rattle.rules.specs.Filling.{fullest, sameFilled}
 use Rattle.rules.specs.Table.{State, state, unitsOf, add, stateAt, Work}
 
 -- ---- which two
@@ -36,13 +37,13 @@ choice T =
 
 -- ---- what becomes of them
 
--- u units of the shared blocks and the larger miss count
+-- u units of the shared blocks, the larger miss count and the larger filled number of each set
 abbrev pub meet : State → State → ℕ → State
-meet s t u = state (shared (s .mask) (t .mask)) (max (s .misses) (t .misses)) u
+meet s t u = state (shared (s .mask) (t .mask)) (max (s .misses) (t .misses)) (fullest (s .filled) (t .filled)) u
 
--- the units of s, where its mask or misses are not those of m
+-- the units of s, where its mask, misses or filled numbers are not those of m
 abbrev pub changed : State → State → ℕ
-changed s m = cond (eqb (s .mask) (m .mask) && eqb (s .misses) (m .misses)) 0 (unitsOf s)
+changed s m = cond (eqb (s .mask) (m .mask) && eqb (s .misses) (m .misses) && sameFilled (s .filled) (m .filled)) 0 (unitsOf s)
 
 -- the state at a place, and the state at a place of the others, replaced by one
 unfoldable pub foldAt : Pair → Work → Work

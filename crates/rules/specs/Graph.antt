@@ -1,9 +1,12 @@
--- A graph: document 01, section 3; document 02, request 3/13. Each node is worked once, in order, from the joined tables of its predecessors.
+-- A graph: document 01, section 3; document 02, requests 3/13 and 6/13. Each node is worked once, in order, from the joined tables of its predecessors.
+use mathlib.Core.Bool.{Bool, cond}
 use mathlib.Core.List.{List, [], _∷_, _++_}
 use Prim.Native.Nat.{ℕ, zero, suc, _-_}
+use lib.Dec.{eqb}
 use lib.ListN.{getD}
 use Rattle.rules.specs.Contents.{Last, unknown, agreed, lastAfter}
 use Rattle.rules.specs.Input.{Input, nodes, runOf, edgesOf, predecessors}
+use Rattle.rules.specs.Filling.{Filled, evenly}
 use Rattle.rules.specs.Table.{State, begin, Work}
 use Rattle.rules.specs.Fold.{folded}
 use Rattle.rules.specs.Join.{join}
@@ -23,11 +26,19 @@ unfoldable pub joinAll : ℕ → Worked → List ℕ → Work → Work
 joinAll K d [] w = w
 joinAll K d (p ∷ ps) w = joinAll K d ps (folded K (record { table = join (w .table) (tableAt d p); aside = w .aside }))
 
+-- whether every way is known to be empty at the start, and stays so until a miss fills it: in the second revision
+abbrev pub startsEmpty : Input → Bool
+startsEmpty i = eqb (i .revision) 2
+
+-- how many ways may be filled at the start: none, or all, since any way may hold a block or be drawn
+unfoldable pub atStart : Input → Filled
+atStart i = evenly (i .sets) (cond (startsEmpty i) 0 (i .ways))
+
 -- what a node starts from, whose predecessors are ps: the first one's table (the lowest: `predecessors-rise` in proofs/Refusals.antt), with the others joined to
--- it; node 0 from the start
-unfoldable pub enter : ℕ → Worked → List ℕ → Work
-enter K d [] = record { table = begin; aside = d .aside }
-enter K d (p ∷ ps) = joinAll K d ps (record { table = tableAt d p; aside = d .aside })
+-- it; node 0 from the start, where F may be filled
+unfoldable pub enter : ℕ → Filled → Worked → List ℕ → Work
+enter K F d [] = record { table = begin F; aside = d .aside }
+enter K F d (p ∷ ps) = joinAll K d ps (record { table = tableAt d p; aside = d .aside })
 
 -- ---- the last block of each node, which the tables do not tell
 
@@ -60,7 +71,7 @@ lastsTo i (suc j) = let ls = lastsTo i j in ls ++ (nodeLast i j ls ∷ [])
 unfoldable pub node : Input → ℕ → Worked → Work
 node i j d =
     let ps = predecessors (edgesOf (i .edges)) j in
-    run (i .ways) (i .sets) (i .limit) (i .tracked) (lastBefore (lastsTo i j) ps) (runOf i j) (enter (i .limit) d ps)
+    run (i .ways) (i .sets) (i .limit) (i .tracked) (lastBefore (lastsTo i j) ps) (runOf i j) (enter (i .limit) (atStart i) d ps)
 
 -- so many nodes from the first on, worked in order
 unfoldable pub worked : Input → ℕ → Worked

@@ -1,4 +1,4 @@
--- What comes in: document 01, section 2; document 02, request 1/13.
+-- What comes in: document 01, section 2; document 02, requests 1/13, 6/13 and 12/13.
 use mathlib.Core.Bool.{cond}
 use mathlib.Core.List.{List, [], _∷_}
 use Prim.Native.Nat.{ℕ}
@@ -11,6 +11,7 @@ use Rattle.rules.specs.declared.Cache.{Cache}
 pub record Input : Type 0 where
   pub sets : ℕ
   pub ways : ℕ
+  pub revision : ℕ
   pub limit : ℕ
   pub tracked : List ℕ
   pub lengths : List ℕ
@@ -19,9 +20,9 @@ pub record Input : Type 0 where
   pub resultRoom : ℕ
   pub workingRoom : ℕ
 
--- a cache of Z sets of N ways
-abbrev pub cache : ℕ → ℕ → Cache
-cache Z N = record { sets = Z; ways = N }
+-- a cache of Z sets of N ways, of revision v
+abbrev pub cache : ℕ → ℕ → ℕ → Cache
+cache Z N v = record { sets = Z; ways = N; revision = v }
 
 -- the cache c, at most K states, the tracked blocks ts, the run lengths ns, the accesses bs, the edges es, rooms of r and w states
 abbrev pub inputIn : Cache → ℕ → List ℕ → List ℕ → List ℕ → List ℕ → ℕ → ℕ → Input
@@ -29,6 +30,7 @@ inputIn c K ts ns bs es r w =
     record {
       sets = c .sets;
       ways = c .ways;
+      revision = c .revision;
       limit = K;
       tracked = ts;
       lengths = ns;

@@ -13,7 +13,7 @@ pub record Match : Type 0 where
   pub right : ℕ
   pub units : ℕ
 
--- a pair gives the shared blocks and the larger misses
+-- a pair gives the shared blocks, the larger misses and the larger filled numbers
 abbrev pub matched : List State → List State → Match → State
 matched S T p = meet (stateAt S (p .left)) (stateAt T (p .right)) (p .units)
 
@@ -25,7 +25,7 @@ paired P S T = add (map (matched S T) P) []
 
 -- s with u units less
 abbrev pub less : State → ℕ → State
-less s u = state (s .mask) (s .misses) (unitsOf s - u)
+less s u = state (s .mask) (s .misses) (s .filled) (unitsOf s - u)
 
 -- what is left of a table whose first state is s when u of its units are used
 abbrev pub leftAfter : ℕ → State → List State → List State

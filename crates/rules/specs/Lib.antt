@@ -6,6 +6,7 @@ pub mod Contents
 pub mod Input
 -- Section 3: states and steps
 pub mod Ordered
+pub mod Filling
 pub mod Table
 pub mod Shape
 pub mod Step

@@ -14,13 +14,19 @@ use Rattle.rules.specs.declared.Count.{Count}
 use Rattle.rules.specs.declared.Count.the-variants.{Misses, Refused as RefusedCount}
 use Rattle.rules.specs.Units.{whole, units}
 use Rattle.rules.specs.Answers.{Reason, when, first}
+use Rattle.rules.specs.Filling.{numbersOf}
 use Rattle.rules.specs.Table.{State, unitsOf, rising, total}
 
 -- ---- what is accepted as a table
 
--- a state of a table: mask at most 65,535, misses at most 4,096, at least 1 unit
+-- each number is at most n
+abbrev pub allMost : ℕ → List ℕ → Bool
+allMost n [] = true
+allMost n (m ∷ ms) = leb m n && allMost n ms
+
+-- a state of a table: mask at most 65,535, misses at most 4,096, each filled number at most 16, at least 1 unit
 abbrev pub fitting : State → Bool
-fitting s = leb (s .mask) 65535 && leb (s .misses) 4096 && leb 1 (unitsOf s)
+fitting s = leb (s .mask) 65535 && leb (s .misses) 4096 && allMost 16 (numbersOf (s .filled)) && leb 1 (unitsOf s)
 
 -- each state is
 abbrev pub allFitting : List State → Bool

@@ -5,7 +5,7 @@ use Prim.Native.Nat.{ℕ, zero, suc}
 use lib.Dec.{eqb, ltb}
 use lib.ListN.{length}
 use Rattle.basics.specs.Sums.{sumOver}
-use Rattle.rules.specs.declared.Refusal.the-variants.{Ways, Sets, Limit, Tracked, Accesses, Graph, Room}
+use Rattle.rules.specs.declared.Refusal.the-variants.{Ways, Sets, Revision, Limit, Tracked, Accesses, Graph, Room}
 use Rattle.rules.specs.declared.Verdict.{Verdict}
 use Rattle.rules.specs.declared.Verdict.the-variants.{Accepted, Refused}
 use Rattle.rules.specs.declared.Outcome.{Outcome}
@@ -61,11 +61,12 @@ edgesKept n ns = let es = edgesOf ns in inPairs ns && forward n es && rises edge
 abbrev pub setCounts : List ℕ
 setCounts = 1 ∷ 2 ∷ 4 ∷ 8 ∷ 16 ∷ []
 
--- 1, 10 and 2 to 6, in order
+-- 1, 10, 11 and 2 to 6, in order
 unfoldable pub reasons : Input → List Reason
 reasons i =
     when (outside 1 16 (i .ways)) Ways
     ∷ when (not (among setCounts (i .sets))) Sets
+    ∷ when (outside 1 2 (i .revision)) Revision
     ∷ when (outside 1 64 (i .limit)) Limit
     ∷ when (ltb 16 (length (i .tracked)) || not (once (i .tracked))) Tracked
     ∷ when (ltb 4096 (length (i .accesses))) Accesses

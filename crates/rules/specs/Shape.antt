@@ -6,6 +6,7 @@ use Prim.Native.Nat.{ℕ, _^_, _≤_, _<_}
 use lib.ListN.{length}
 use Rattle.rules.specs.Units.{whole}
 use Rattle.rules.specs.Contents.{Place, Target, at, bit, shared, size, ofSet}
+use Rattle.rules.specs.Filling.{Filled, filledAt}
 use Rattle.rules.specs.Table.{State, unitsOf, rising, total}
 
 -- every element of a list has the property
@@ -17,23 +18,24 @@ Every P (x ∷ xs) = P x × Every P xs
 abbrev pub Listed : ℕ → Place → Type 0
 Listed k x = (i : ℕ) → x ≡ at i → i < k
 
--- x has one of the places of ts or none, a place of its own set, and that set's blocks beside it
+-- x has one of the places of ts or none, a place of its own set, one of sixteen, and that set's blocks beside it
 pub record Aimed (Z : ℕ) (ts : List ℕ) (x : Target) : Type 0 where
+  pub near : x .set < 16
   pub placed : Listed (length ts) (x .place)
   pub own : (i : ℕ) → x .place ≡ at i → bit (x .mates) i ≡ true
   pub beside : x .mates ≡ ofSet Z ts (x .set)
 
--- C has no more blocks of any set than the set has ways
-abbrev pub Room : ℕ → ℕ → List ℕ → ℕ → Type 0
-Room N Z ts C = (j : ℕ) → size (shared C (ofSet Z ts j)) ≤ N
+-- C has no more blocks of any set than ways of it may be filled, which are no more than N
+abbrev pub Room : ℕ → ℕ → List ℕ → ℕ → Filled → Type 0
+Room N Z ts C F = (j : ℕ) → (size (shared C (ofSet Z ts j)) ≤ filledAt F j) × (filledAt F j ≤ N)
 
 -- Z sets of N ways, the tracked blocks ts
 module _ (N Z : ℕ) (ts : List ℕ) where
-  -- a mask of a bit for each, at most M misses, no more blocks of a set than ways
+  -- a mask of a bit for each, at most M misses, no more blocks of a set than ways that may be filled
   pub record Loose (M : ℕ) (s : State) : Type 0 where
     pub masked : s .mask < 2 ^ length ts
     pub few : s .misses ≤ M
-    pub small : Room N Z ts (s .mask)
+    pub small : Room N Z ts (s .mask) (s .filled)
 
   -- and at least 1 unit
   abbrev pub Shaped : ℕ → State → Type 0

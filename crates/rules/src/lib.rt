@@ -3,6 +3,7 @@ ghost use mathlib.Core.Path.{_≡_};
 ghost use Rattle.rules.specs.Units.{splitOf, addOf};
 ghost use Rattle.rules.specs.Answers.{numberOf};
 ghost use Rattle.rules.specs.Ordered.{byNumber, thenBy, isBefore};
+ghost use Rattle.rules.specs.Table.{order};
 ghost use Rattle.rules.specs.Cycles.{coreAt};
 
 // A probability: whole units of 2^-48.
@@ -51,11 +52,21 @@ impl Units {
     }
 }
 
-// A state of a table: the contents mask (bit i: the tracked block at place i is surely held), a miss count, and units.
+// How many ways of each of sixteen sets may be filled: a byte for each set, set 0 in the highest byte of `front`, set 8 in that of `back`,
+// so that comparing the words compares the numbers, set 0 first.
+#[repr(C)]
+pub struct Filled {
+    pub front: u64,
+    pub back: u64,
+}
+
+// A state of a table: the contents mask (bit i: the tracked block at place i is surely held), a miss count, how many ways of each set may
+// be filled, and units.
 #[repr(C)]
 pub struct State {
     pub mask: u64,
     pub misses: u64,
+    pub filled: Filled,
     pub units: Units,
 }
 
@@ -65,10 +76,11 @@ pub enum Place {
     Untracked,
 }
 
-// The cache: how many sets it has, and how many ways a set has.
+// The cache: how many sets it has, how many ways a set has, and the core's revision.
 pub struct Cache {
     pub sets: u32,
     pub ways: u32,
+    pub revision: u32,
 }
 
 // The block accessed directly before, if it is known.
@@ -99,6 +111,21 @@ pub fn precedes(a: u64, b: u64, c: u64, d: u64) -> bool
     b < d
 }
 
+// Whether `s` stands before `t` in a table: by mask, then by misses, then by the filled numbers, set 0 first.
+pub fn stands_before(s: State, t: State) -> bool
+    ensures { λ r. ⌜ r ≡ isBefore (order s t) ⌝ }
+{
+    if precedes(s.mask, s.misses, t.mask, t.misses) {
+        return true;
+    }
+    if precedes(t.mask, t.misses, s.mask, s.misses) {
+        return false;
+    }
+    let f = s.filled;
+    let g = t.filled;
+    precedes(f.front, f.back, g.front, g.back)
+}
+
 // The places of the two states that a fold makes one: that of fewest units in the table, and its partner's among the others.
 pub struct Pair {
     pub fewest: usize,
@@ -117,6 +144,7 @@ pub enum Refusal {
     Row,
     SpreadRoom,
     Sets,
+    Revision,
     NoCore,
     TraceLength,
     TraceRoom,
@@ -138,6 +166,7 @@ impl Refusal {
             Refusal::Row => 7,
             Refusal::SpreadRoom => 8,
             Refusal::Sets => 10,
+            Refusal::Revision => 11,
             Refusal::NoCore => 16,
             Refusal::TraceLength => 12,
             Refusal::TraceRoom => 21,

@@ -199,7 +199,7 @@ module _ (ns : List ℕ) where
 -- what the numbers mean, with the parts ending at a, b, c and d
 abbrev pub between : List ℕ → ℕ → ℕ → ℕ → ℕ → Input
 between ns a b c d =
-    inputOf (cache 1 (getD ns 0 0)) (getD ns 1 0) (take (a - 3) (drop 3 ns)) (take (b - (a + 1)) (drop (a + 1) ns)) (take (c - (b + 1)) (drop (b + 1) ns)) (take (d - (c + 1)) (drop (c + 1) ns))
+    inputOf (cache 1 (getD ns 0 0) 1) (getD ns 1 0) (take (a - 3) (drop 3 ns)) (take (b - (a + 1)) (drop (a + 1) ns)) (take (c - (b + 1)) (drop (b + 1) ns)) (take (d - (c + 1)) (drop (c + 1) ns))
 
 module _ (ns : List ℕ) (a b c : ℕ) (ends : Ends ns a b c) where
   is₁ : a ≡ e₁ ns
@@ -224,7 +224,7 @@ module _ (ns : List ℕ) (a b c : ℕ) (ends : Ends ns a b c) where
       let h₃ = within₃ ns h₄ in
       let h₂ = within₂ ns h₄ in
       let h₁ = within₁ ns h₄ in
-      (λ i. inputOf (cache 1 (getD ns 0 0)) (getD ns 1 0) (tracked-is ns h₁ i .numbers) (runs-is ns h₁ h₂ i .numbers) (accesses-is ns h₁ h₂ h₃ i .numbers) (edges-is ns h₁ h₂ h₃ h₄ i .numbers))
+      (λ i. inputOf (cache 1 (getD ns 0 0) 1) (getD ns 1 0) (tracked-is ns h₁ i .numbers) (runs-is ns h₁ h₂ i .numbers) (accesses-is ns h₁ h₂ h₃ i .numbers) (edges-is ns h₁ h₂ h₃ h₄ i .numbers))
       ∙ (λ i. between ns (sym is₁ i) (sym is₂ i) (sym is₃ i) (is₄ i))
 
   -- they stand in order

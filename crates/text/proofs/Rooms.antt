@@ -19,14 +19,14 @@ use Rattle.text.specs.Wanted.{wantedBytes}
 use Rattle.text.specs.Rooms.{Rooms, longEnough, enough, NumbersWritten, written, textWritten}
 use Rattle.text.specs.Working.{Wrote}
 
-pub rooms-long : (bytes a b c d : ℕ) → longEnough bytes a b c d ≡ true → (192 ≤ a) × (15552 ≤ b) × (4097 ≤ c) × (bytes ≤ d)
+pub rooms-long : (bytes a b c d : ℕ) → longEnough bytes a b c d ≡ true → (320 ≤ a) × (25920 ≤ b) × (4097 ≤ c) × (bytes ≤ d)
 rooms-long bytes a b c d h =
-    let three = and-left (leb 192 a && leb 15552 b && leb 4097 c) (leb bytes d) h in
-    let two = and-left (leb 192 a && leb 15552 b) (leb 4097 c) three in (
-      leb-true 192 a (and-left (leb 192 a) (leb 15552 b) two),
-      leb-true 15552 b (and-right (leb 192 a) (leb 15552 b) two),
-      leb-true 4097 c (and-right (leb 192 a && leb 15552 b) (leb 4097 c) three),
-      leb-true bytes d (and-right (leb 192 a && leb 15552 b && leb 4097 c) (leb bytes d) h),
+    let three = and-left (leb 320 a && leb 25920 b && leb 4097 c) (leb bytes d) h in
+    let two = and-left (leb 320 a && leb 25920 b) (leb 4097 c) three in (
+      leb-true 320 a (and-left (leb 320 a) (leb 25920 b) two),
+      leb-true 25920 b (and-right (leb 320 a) (leb 25920 b) two),
+      leb-true 4097 c (and-right (leb 320 a && leb 25920 b) (leb 4097 c) three),
+      leb-true bytes d (and-right (leb 320 a && leb 25920 b && leb 4097 c) (leb bytes d) h),
     )
 
 -- a refusal's line fits whatever is wanted

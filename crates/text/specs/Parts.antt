@@ -39,7 +39,7 @@ complete ns =
     leb 2 (length ns) && trackedPart ns .enough && runsPart ns .enough && accessesPart ns .enough && edgesPart ns .enough
     && eqb (length (edgesPart ns .rest)) 0
 
--- what a graph call is handed; the cache has one set
+-- what a graph call is handed; the cache has one set and is of the first revision
 unfoldable pub inputFrom : List ℕ → Input
 inputFrom ns =
-    inputOf (cache 1 (getD ns 0 0)) (getD ns 1 0) (trackedPart ns .numbers) (runsPart ns .numbers) (accessesPart ns .numbers) (edgesPart ns .numbers)
+    inputOf (cache 1 (getD ns 0 0) 1) (getD ns 1 0) (trackedPart ns .numbers) (runsPart ns .numbers) (accessesPart ns .numbers) (edgesPart ns .numbers)

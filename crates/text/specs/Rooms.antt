@@ -19,7 +19,7 @@ pub record Rooms : Type 0 where
 
 -- how many words they have to have, and how many bytes, `bytes` being surely enough for the text
 abbrev pub longEnough : ℕ → ℕ → ℕ → ℕ → ℕ → Bool
-longEnough bytes result work counts output = leb 192 result && leb 15552 work && leb 4097 counts && leb bytes output
+longEnough bytes result work counts output = leb 320 result && leb 25920 work && leb 4097 counts && leb bytes output
 
 -- whether rooms are long enough
 abbrev pub enough : ℕ → Rooms → Bool

@@ -25,7 +25,7 @@ pub enum Written {
 }
 
 // The curve's text for numbers in the curve's order, at the front of `output`. What was worked in is zero then; a refusal, which is a text too, leaves it as it was.
-// Long enough are a result room of 192 words, a working room of 15,552, counts of 4,097, and an output of 262,144 bytes.
+// Long enough are a result room of 320 words, a working room of 25,920, counts of 4,097, and an output of 262,144 bytes.
 pub fn curve_of_numbers(
     numbers: &[u32],
     result: &mut [u64],

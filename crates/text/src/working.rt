@@ -43,7 +43,7 @@ pub(crate) enum Wanted {
     Cycles,
 }
 
-// The graph call of a cache with one set, for numbers that are complete: the tracked blocks end at `first`, the run lengths at `second`, the accesses at `third`.
+// The graph call of a cache with one set, of the first revision, for numbers that are complete: the tracked blocks end at `first`, the run lengths at `second`, the accesses at `third`.
 pub(crate) fn call(
     numbers: &[u32],
     first: usize,
@@ -52,13 +52,14 @@ pub(crate) fn call(
     result: &mut [u64],
     work: &mut [u64],
 ) -> Outcome
-    requires { ⌜ Ends (now numbers) first second third × (3 ≤ first) × (first < second) × (second < third) × (third < length (now numbers)) × (192 ≤ length (now result)) × (15552 ≤ length (now work)) ⌝ }
+    requires { ⌜ Ends (now numbers) first second third × (3 ≤ first) × (first < second) × (second < third) × (third < length (now numbers)) × (320 ≤ length (now result)) × (25920 ≤ length (now work)) ⌝ }
     ensures { λ r. ⌜ Called (inputFrom (now (numbers .entry))) r (now (result .entry)) (now (work .entry)) (now (result .exit)) (now (work .exit)) ⌝ }
 {
     analyse(
         Cache {
             sets: 1,
             ways: numbers[0],
+            revision: 1,
         },
         numbers[1],
         &numbers[3..first],
@@ -79,6 +80,7 @@ pub(crate) fn longest_of(numbers: &[u32], first: usize, second: usize, third: us
         Cache {
             sets: 1,
             ways: numbers[0],
+            revision: 1,
         },
         numbers[1],
         &numbers[3..first],
@@ -202,7 +204,7 @@ pub(crate) fn put_numbers(
     counts: &mut [u64],
     output: &mut [u8],
 ) -> usize
-    requires { ⌜ (192 ≤ length (now result)) × (15552 ≤ length (now work)) × (4097 ≤ length (now counts)) × (wantedBytes wanted ≤ length (now output)) ⌝ }
+    requires { ⌜ (320 ≤ length (now result)) × (25920 ≤ length (now work)) × (4097 ≤ length (now counts)) × (wantedBytes wanted ≤ length (now output)) ⌝ }
     ensures { λ r. ⌜ Wrote (numbersWorked (now (numbers .entry))) (ofNumbers (wantedText wanted) (now (numbers .entry))) r (record { result = now (result .entry); work = now (work .entry); counts = now (counts .entry); output = now (output .entry) }) (record { result = now (result .exit); work = now (work .exit); counts = now (counts .exit); output = now (output .exit) }) ⌝ }
 {
     let first = end_of(numbers, 2, 1);
@@ -238,7 +240,7 @@ pub(crate) fn put_text(
     counts: &mut [u64],
     output: &mut [u8],
 ) -> usize
-    requires { ⌜ (16384 ≤ length (now numbers)) × (192 ≤ length (now result)) × (15552 ≤ length (now work)) × (4097 ≤ length (now counts)) × (wantedBytes wanted ≤ length (now output)) ⌝ }
+    requires { ⌜ (16384 ≤ length (now numbers)) × (320 ≤ length (now result)) × (25920 ≤ length (now work)) × (4097 ≤ length (now counts)) × (wantedBytes wanted ≤ length (now output)) ⌝ }
     ensures { λ r. ⌜ Wrote (textWorked (now (text .entry))) (ofText (wantedText wanted) (now (text .entry))) r (record { result = now (result .entry); work = now (work .entry); counts = now (counts .entry); output = now (output .entry) }) (record { result = now (result .exit); work = now (work .exit); counts = now (counts .exit); output = now (output .exit) }) ⌝ }
 {
     match read_numbers(text, numbers) {
@@ -267,10 +269,10 @@ pub(crate) fn has_room(
 ) -> bool
     ensures { λ r. ⌜ r ≡ longEnough (wantedBytes wanted) result work counts output ⌝ }
 {
-    if result < 192 {
+    if result < 320 {
         return false;
     }
-    if work < 15552 {
+    if work < 25920 {
         return false;
     }
     if counts < 4097 {

@@ -7,81 +7,97 @@ use lib.ListN.{length, getD, set, take, drop, length-set}
 use lib.Seq.{take-at}
 use Rattle.rules.specs.declared.State.{State}
 use Rattle.basics.proofs.Lists.{list-next, list-end}
-use Rattle.rules.specs.Table.{state, stateAt}
+use Rattle.rules.specs.Table.{state, noState, stateAt}
 use Rattle.words.specs.Tables.{tableOf, wordsOf, stored}
 
 -- the state at place i of a list of words
 abbrev pub rowOf : List ℕ → ℕ → State
-rowOf ws i = record { mask = getD ws (i * 3) 0; misses = getD ws (i * 3 + 1) 0; units = record { 0 = getD ws (i * 3 + 2) 0 } }
+rowOf ws i =
+    state (getD ws (i * 5) 0) (getD ws (i * 5 + 1) 0) (record { front = getD ws (i * 5 + 2) 0; back = getD ws (i * 5 + 3) 0 })
+    (getD ws (i * 5 + 4) 0)
 
--- one place further is three words further
-pub third : (i : ℕ) → suc i * 3 ≡ suc (suc (suc (i * 3)))
-third i = omega arith
+-- one place further is five words further, also of the words within a state
+pub fifth : (i : ℕ) → suc i * 5 ≡ suc (suc (suc (suc (suc (i * 5)))))
+fifth i = omega arith
 
-third-1 : (i : ℕ) → suc i * 3 + 1 ≡ suc (suc (suc (i * 3 + 1)))
-third-1 i = omega arith
+fifth-and : (j i : ℕ) → suc i * 5 + j ≡ suc (suc (suc (suc (suc (i * 5 + j)))))
+fifth-and j i = omega arith
 
-third-2 : (i : ℕ) → suc i * 3 + 2 ≡ suc (suc (suc (i * 3 + 2)))
-third-2 i = omega arith
-
-pub length-tableOf : (ws : List ℕ) → length (tableOf ws) ≡ length ws / 3
+pub length-tableOf : (ws : List ℕ) → length (tableOf ws) ≡ length ws / 5
 unfolding tableOf
 length-tableOf [] = refl
 length-tableOf (a ∷ []) = refl
 length-tableOf (a ∷ b ∷ []) = refl
-length-tableOf (a ∷ b ∷ c ∷ ws) = omega (arith, length-tableOf ws)
+length-tableOf (a ∷ b ∷ c ∷ []) = refl
+length-tableOf (a ∷ b ∷ c ∷ d ∷ []) = refl
+length-tableOf (a ∷ b ∷ c ∷ d ∷ e ∷ ws) = omega (arith, length-tableOf ws)
 
-pub row-at : (ws : List ℕ) (i : ℕ) (d : State) → i * 3 + 3 ≤ length ws → getD (tableOf ws) i d ≡ rowOf ws i
+-- where there are fewer than five words there is no place for a state
+pub row-at : (ws : List ℕ) (i : ℕ) (z : State) → i * 5 + 5 ≤ length ws → getD (tableOf ws) i z ≡ rowOf ws i
 unfolding tableOf
-row-at [] i d h = absurd (omega arith)
-row-at (a ∷ []) i d h = absurd (omega arith)
-row-at (a ∷ b ∷ []) i d h = absurd (omega arith)
-row-at (a ∷ b ∷ c ∷ ws) zero d h = refl
-row-at (a ∷ b ∷ c ∷ ws) (suc i) d h = rw (third-1, third-2, third) (row-at ws i d (omega arith))
+row-at [] i z h = absurd (omega arith)
+row-at (a ∷ []) i z h = absurd (omega arith)
+row-at (a ∷ b ∷ []) i z h = absurd (omega arith)
+row-at (a ∷ b ∷ c ∷ []) i z h = absurd (omega arith)
+row-at (a ∷ b ∷ c ∷ d ∷ []) i z h = absurd (omega arith)
+row-at (a ∷ b ∷ c ∷ d ∷ e ∷ ws) zero z h = refl
+row-at (a ∷ b ∷ c ∷ d ∷ e ∷ ws) (suc i) z h =
+    rw (fifth-and 1, fifth-and 2, fifth-and 3, fifth-and 4, fifth) (row-at ws i z (omega arith))
 
 pub length-stored : (ws : List ℕ) (i : ℕ) (s : State) → length (stored ws i s) ≡ length ws
-length-stored ws i s = rw (length-set, length-set, length-set)
+length-stored ws i s = rw (length-set, length-set, length-set, length-set, length-set)
 
 pub table-stored : (ws : List ℕ) (i : ℕ) (s : State) → tableOf (stored ws i s) ≡ set (tableOf ws) i s
 unfolding tableOf
 table-stored [] zero s = refl
-table-stored [] (suc i) s = refl
 table-stored (a ∷ []) zero s = refl
-table-stored (a ∷ []) (suc i) s = rw (third-1, third-2, third) refl
 table-stored (a ∷ b ∷ []) zero s = refl
-table-stored (a ∷ b ∷ []) (suc i) s = rw (third-1, third-2, third) refl
-table-stored (a ∷ b ∷ c ∷ ws) zero s = refl
-table-stored (a ∷ b ∷ c ∷ ws) (suc i) s =
-    rw (third-1, third-2, third) (ap (λ (t : List State). state a b c ∷ t) (table-stored ws i s))
+table-stored (a ∷ b ∷ c ∷ []) zero s = refl
+table-stored (a ∷ b ∷ c ∷ d ∷ []) zero s = refl
+table-stored (a ∷ b ∷ c ∷ d ∷ e ∷ ws) zero s = refl
+table-stored [] (suc i) s = refl
+table-stored (a ∷ []) (suc i) s = rw (fifth-and 1, fifth-and 2, fifth-and 3, fifth-and 4, fifth) refl
+table-stored (a ∷ b ∷ []) (suc i) s = rw (fifth-and 1, fifth-and 2, fifth-and 3, fifth-and 4, fifth) refl
+table-stored (a ∷ b ∷ c ∷ []) (suc i) s = rw (fifth-and 1, fifth-and 2, fifth-and 3, fifth-and 4, fifth) refl
+table-stored (a ∷ b ∷ c ∷ d ∷ []) (suc i) s = rw (fifth-and 1, fifth-and 2, fifth-and 3, fifth-and 4, fifth) refl
+table-stored (a ∷ b ∷ c ∷ d ∷ e ∷ ws) (suc i) s =
+    rw (fifth-and 1, fifth-and 2, fifth-and 3, fifth-and 4, fifth)
+    (ap (λ (t : List State). state a b (record { front = c; back = d }) e ∷ t) (table-stored ws i s))
 
-pub table-take : (ws : List ℕ) (k : ℕ) → tableOf (take (k * 3) ws) ≡ take k (tableOf ws)
+pub table-take : (ws : List ℕ) (k : ℕ) → tableOf (take (k * 5) ws) ≡ take k (tableOf ws)
 unfolding tableOf
 table-take ws zero = refl
-table-take [] (suc k) = rw third refl
-table-take (a ∷ []) (suc k) = rw third refl
-table-take (a ∷ b ∷ []) (suc k) = rw third refl
-table-take (a ∷ b ∷ c ∷ ws) (suc k) =
-    rw third (ap (λ (t : List State). state a b c ∷ t) (table-take ws k))
+table-take [] (suc k) = rw fifth refl
+table-take (a ∷ []) (suc k) = rw fifth refl
+table-take (a ∷ b ∷ []) (suc k) = rw fifth refl
+table-take (a ∷ b ∷ c ∷ []) (suc k) = rw fifth refl
+table-take (a ∷ b ∷ c ∷ d ∷ []) (suc k) = rw fifth refl
+table-take (a ∷ b ∷ c ∷ d ∷ e ∷ ws) (suc k) =
+    rw fifth (ap (λ (t : List State). state a b (record { front = c; back = d }) e ∷ t) (table-take ws k))
 
-pub table-drop : (ws : List ℕ) (k : ℕ) → tableOf (drop (k * 3) ws) ≡ drop k (tableOf ws)
+pub table-drop : (ws : List ℕ) (k : ℕ) → tableOf (drop (k * 5) ws) ≡ drop k (tableOf ws)
 unfolding tableOf
 table-drop ws zero = refl
-table-drop [] (suc k) = rw third refl
-table-drop (a ∷ []) (suc k) = rw third refl
-table-drop (a ∷ b ∷ []) (suc k) = rw third refl
-table-drop (a ∷ b ∷ c ∷ ws) (suc k) = rw third (table-drop ws k)
+table-drop [] (suc k) = rw fifth refl
+table-drop (a ∷ []) (suc k) = rw fifth refl
+table-drop (a ∷ b ∷ []) (suc k) = rw fifth refl
+table-drop (a ∷ b ∷ c ∷ []) (suc k) = rw fifth refl
+table-drop (a ∷ b ∷ c ∷ d ∷ []) (suc k) = rw fifth refl
+table-drop (a ∷ b ∷ c ∷ d ∷ e ∷ ws) (suc k) = rw fifth (table-drop ws k)
 
-pub table-append : (ws vs : List ℕ) (k : ℕ) → length ws ≡ k * 3 → tableOf (ws ++ vs) ≡ tableOf ws ++ tableOf vs
+pub table-append : (ws vs : List ℕ) (k : ℕ) → length ws ≡ k * 5 → tableOf (ws ++ vs) ≡ tableOf ws ++ tableOf vs
 unfolding tableOf
 table-append [] vs k h = refl
 table-append (a ∷ []) vs k h = absurd (omega arith)
 table-append (a ∷ b ∷ []) vs k h = absurd (omega arith)
-table-append (a ∷ b ∷ c ∷ ws) vs zero h = absurd (omega arith)
-table-append (a ∷ b ∷ c ∷ ws) vs (suc k) h =
-    ap (λ (t : List State). state a b c ∷ t) (table-append ws vs k (omega arith))
+table-append (a ∷ b ∷ c ∷ []) vs k h = absurd (omega arith)
+table-append (a ∷ b ∷ c ∷ d ∷ []) vs k h = absurd (omega arith)
+table-append (a ∷ b ∷ c ∷ d ∷ e ∷ ws) vs zero h = absurd (omega arith)
+table-append (a ∷ b ∷ c ∷ d ∷ e ∷ ws) vs (suc k) h =
+    ap (λ (t : List State). state a b (record { front = c; back = d }) e ∷ t) (table-append ws vs k (omega arith))
 
 -- the words of a table, read back
-length-words : (T : List State) → length (wordsOf T) ≡ length T * 3
+length-words : (T : List State) → length (wordsOf T) ≡ length T * 5
 unfolding wordsOf
 length-words [] = refl
 length-words (s ∷ T) = omega (arith, length-words T)
@@ -96,18 +112,18 @@ words-first T vs =
     ap (take (length T)) (table-append (wordsOf T) vs (length T) (length-words T) ∙ ap (λ (t : List State). t ++ tableOf vs) (table-words T))
     ∙ take-at T (tableOf vs) (length T) refl
 
--- n states in n * 3 words
-pub fits-table : (ws : List ℕ) (n : ℕ) → n * 3 ≤ length ws → n ≤ length (tableOf ws)
+-- n states in n * 5 words
+pub fits-table : (ws : List ℕ) (n : ℕ) → n * 5 ≤ length ws → n ≤ length (tableOf ws)
 fits-table ws n h = omega (arith, length-tableOf ws)
 
-pub below-table : (ws : List ℕ) (n : ℕ) → n * 3 + 3 ≤ length ws → n < length (tableOf ws)
+pub below-table : (ws : List ℕ) (n : ℕ) → n * 5 + 5 ≤ length ws → n < length (tableOf ws)
 below-table ws n h = omega (arith, length-tableOf ws)
 
 -- ---- through the states from the front
 
 module _ {A : Type 0} (f : List State → A) (ws : List ℕ) (i : ℕ) (w : A) (rest : f (drop i (tableOf ws)) ≡ w) where
-  pub state-next : i < length ws / 3 → f (stateAt (tableOf ws) i ∷ drop (i + 1) (tableOf ws)) ≡ w
-  state-next h = list-next f (tableOf ws) i w rest (state 0 0 0) (omega (arith, length-tableOf ws))
+  pub state-next : i < length ws / 5 → f (stateAt (tableOf ws) i ∷ drop (i + 1) (tableOf ws)) ≡ w
+  state-next h = list-next f (tableOf ws) i w rest noState (omega (arith, length-tableOf ws))
 
-  pub state-end : length ws / 3 ≤ i → f [] ≡ w
+  pub state-end : length ws / 5 ≤ i → f [] ≡ w
   state-end h = list-end f (tableOf ws) i w rest (omega (arith, length-tableOf ws))

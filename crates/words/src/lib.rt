@@ -1,4 +1,5 @@
-// Tables in lent words: three words a state, in order.
+// Tables in lent words: five words a state, in order.
+use rules::Filled;
 use rules::State;
 use rules::Units;
 ghost use mathlib.Core.Path.{_≡_};
@@ -10,18 +11,23 @@ ghost use Rattle.words.specs.Tables.{tableOf};
 pub fn state_at(words: &[u64], at: usize) -> State
     ensures { λ r. ⌜ r ≡ stateAt (tableOf (now (words .entry))) at ⌝ }
 {
-    if words.len() / 3 <= at {
+    if words.len() / 5 <= at {
         return State {
             mask: 0,
             misses: 0,
+            filled: Filled { front: 0, back: 0 },
             units: Units(0),
         };
     }
-    let base = at * 3;
+    let base = at * 5;
     State {
         mask: words[base],
         misses: words[base + 1],
-        units: Units(words[base + 2]),
+        filled: Filled {
+            front: words[base + 2],
+            back: words[base + 3],
+        },
+        units: Units(words[base + 4]),
     }
 }
 

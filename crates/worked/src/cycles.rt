@@ -26,12 +26,12 @@ fn part_above(cycles: u64, budget: u64, units: u64) -> u64 {
 
 // The units of the states with more cycles than `budget`: each state's misses, in a path of `longest` accesses.
 fn units_above_cycles(states: &[u64], core: Core, longest: u64, budget: u64) -> u64 {
-    let n = states.len() / 3;
+    let n = states.len() / 5;
     let mut units: u64 = 0;
     let mut i: usize = 0;
     while i < n {
-        let cycles = cycles_of(core, longest, states[i * 3 + 1]);
-        units = plus(units, part_above(cycles, budget, states[i * 3 + 2]));
+        let cycles = cycles_of(core, longest, states[i * 5 + 1]);
+        units = plus(units, part_above(cycles, budget, states[i * 5 + 4]));
         i += 1;
     }
     units
@@ -55,11 +55,11 @@ fn first_cycles(states: &[u64], core: Core, longest: u64, units: u64) -> u64 {
     if units_above_cycles(states, core, longest, 0) <= units {
         return 0;
     }
-    let n = states.len() / 3;
+    let n = states.len() / 5;
     let mut least = MOST;
     let mut i: usize = 0;
     while i < n {
-        least = lesser(states, core, longest, units, states[i * 3 + 1], least);
+        least = lesser(states, core, longest, units, states[i * 5 + 1], least);
         i += 1;
     }
     least

@@ -1,4 +1,4 @@
-// What has to be answered about some states, three words each: worked out here, with nothing of the questions' own code.
+// What has to be answered about some states, five words each: worked out here, with nothing of the questions' own code.
 
 // The largest number: it stands for a sum that does not fit.
 pub(crate) const MOST: u64 = 18446744073709551615;
@@ -30,11 +30,11 @@ fn part(misses: u64, units: u64, low: u64, high: u64) -> u64 {
 
 // The units of the states with `low` to `high` misses.
 pub(crate) fn units_between(states: &[u64], low: u64, high: u64) -> u64 {
-    let n = states.len() / 3;
+    let n = states.len() / 5;
     let mut units: u64 = 0;
     let mut i: usize = 0;
     while i < n {
-        units = plus(units, part(states[i * 3 + 1], states[i * 3 + 2], low, high));
+        units = plus(units, part(states[i * 5 + 1], states[i * 5 + 4], low, high));
         i += 1;
     }
     units

@@ -1,11 +1,10 @@
 // The lines of a graph: what the graph call and the longest path answer, and what stands in the rooms after the call. The fields are
 //
-//     sets, ways, limit | tracked blocks | run lengths | accesses | edges | words of the result room and of the working room | answer, set aside | states
+//     sets, ways, revision, limit | tracked blocks | run lengths | accesses | edges | words of the result room and of the working room | answer, set aside | states
 //
 // where the answer is 0 or the number of a refusal. A `worked` case is written with its answers to every question, which are compared; of a
 // `refusal` only what it gives is written, and of a `path` the longest path, which stands in the place of the answer.
 use crate::asked::ask_case;
-use crate::lines::begin;
 use crate::lines::count;
 use crate::lines::list;
 use crate::lines::number;
@@ -19,6 +18,7 @@ use crate::rooms::is_marked;
 use crate::rooms::mark;
 use crate::said::Said;
 use crate::said::length_said;
+use crate::states::states_of;
 use estimate::analyse;
 use longest::longest_path;
 use rules::Cache;
@@ -62,8 +62,9 @@ fn both(
     let cache = Cache {
         sets: small(number(line, 1, 0)),
         ways: small(number(line, 1, 1)),
+        revision: small(number(line, 1, 2)),
     };
-    let limit = small(number(line, 1, 2));
+    let limit = small(number(line, 1, 3));
     let longest = length_said(longest_path(cache, limit, tracked, runs, accesses, edges));
     got_of(
         longest,
@@ -167,7 +168,7 @@ fn compare_table(
 ) -> Report {
     report
         .compared(got.refusal == 0)
-        .compared(got.states == states.len() / 3)
+        .compared(got.states == states.len() / 5)
         .compared(got.aside == aside)
         .compared(has_only(result, states))
         .compared(has_only(work, &[]))
@@ -237,21 +238,12 @@ fn graph_in(
     report: Report,
 ) -> Report {
     let got = called(line, result, work);
-    let from = begin(line, 8);
-    let end = begin(line, 9);
-    if end < from {
+    let mut words: [u64; 320] = [0; 320];
+    let end = states_of(line, &mut words);
+    if 320 < end {
         return report.compared(false);
     }
-    compare(
-        kind,
-        name,
-        got,
-        line,
-        result,
-        work,
-        &line[from..end],
-        report,
-    )
+    compare(kind, name, got, line, result, work, &words[0..end], report)
 }
 
 // A line in the first words of two rooms.
@@ -282,7 +274,7 @@ fn graph_within(
 }
 
 pub(crate) fn graph_line(kind: u8, name: &[u8], line: &[u64], report: Report) -> Report {
-    let mut result: [u64; 200] = [0; 200];
-    let mut work: [u64; 15560] = [0; 15560];
+    let mut result: [u64; 328] = [0; 328];
+    let mut work: [u64; 25932] = [0; 25932];
     graph_within(kind, name, line, &mut result, &mut work, report)
 }

@@ -57,7 +57,7 @@ fn with_digit(n: u64, digit: u8) -> u64 {
     plus(n * 10, digit as u64)
 }
 
-fn put(room: &mut [u64], at: usize, value: u64) {
+pub(crate) fn put(room: &mut [u64], at: usize, value: u64) {
     if at < room.len() {
         room[at] = value;
     }

@@ -91,12 +91,12 @@ fn row_line(name: &[u8], line: &[u64], words: &[u64], report: Report) -> Report 
 
 // A state at each mask from 0 on, with as many misses: 2^42 units each, and half of that from place `halves` on.
 fn ladder(words: &mut [u64], halves: usize) {
-    let n = words.len() / 3;
+    let n = words.len() / 5;
     let mut i: usize = 0;
     while i < n {
-        words[i * 3] = i as u64;
-        words[i * 3 + 1] = i as u64;
-        words[i * 3 + 2] = step_units(i, halves);
+        words[i * 5] = i as u64;
+        words[i * 5 + 1] = i as u64;
+        words[i * 5 + 4] = step_units(i, halves);
         i += 1;
     }
 }
@@ -114,18 +114,18 @@ fn ladder_in(name: &[u8], line: &[u64], words: &mut [u64], report: Report) -> Re
 }
 
 pub(crate) fn ladder_line(name: &[u8], line: &[u64], report: Report) -> Report {
-    let mut words: [u64; 9000] = [0; 9000];
+    let mut words: [u64; 15000] = [0; 15000];
     let states = number(line, 3, 0);
     if 3000 < states {
         return report.compared(false);
     }
-    let end = states as usize * 3;
+    let end = states as usize * 5;
     ladder_in(name, line, &mut words[0..end], report)
 }
 
 // Both questions in cycles.
 fn time_line(name: &[u8], line: &[u64], words: &[u64], report: Report) -> Report {
-    let n = words.len() / 3;
+    let n = words.len() / 5;
     let core = number(line, 1, 0) as usize;
     let longest = number(line, 1, 1);
     let answer = number(line, 1, 2);
@@ -143,7 +143,7 @@ fn allowed_line(line: &[u64], words: &[u64], report: Report) -> Report {
     let core = number(line, 1, 0) as usize;
     let longest = number(line, 1, 1);
     let units = number(line, 1, 2);
-    let said = time_said(smallest_cycles_in(words, words.len() / 3, core, longest, units));
+    let said = time_said(smallest_cycles_in(words, words.len() / 5, core, longest, units));
     io::write_all(1, b"cycles: at most ");
     io::print_decimal(1, units);
     say(b" above: ", said.value);

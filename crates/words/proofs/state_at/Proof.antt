@@ -1,10 +1,10 @@
--- `state_at` reads the three words of a state; where they do not lie within the slice there is no such state.
+-- `state_at` reads the five words of a state; where they do not lie within the slice there is no such state.
 use mathlib.Core.Path.{sym}
 use native.Mathlib.Omega.{arith}
 use borrow.Author.Needs.{needs}
 use denote.Ref.{now}
 use lib.ListN.{List·getD-eq-default}
-use Rattle.rules.specs.Table.{state}
+use Rattle.rules.specs.Table.{noState}
 use Rattle.words.specs.Tables.{tableOf}
 use Rattle.words.proofs.Tables.{length-tableOf, row-at}
 use Rattle.words.proofs.state_at.Statement.{statement}
@@ -13,7 +13,7 @@ use Rattle.words.proofs.state_at.Tie as tie
 returns : tie.Need-returns
 returns c =
     let ws = now (c .before .args .words) in
-    sym (List·getD-eq-default (tableOf ws) (state 0 0 0) (omega (arith, length-tableOf ws)))
+    sym (List·getD-eq-default (tableOf ws) noState (omega (arith, length-tableOf ws)))
 
 returns-2 : tie.Need-returns-2
 returns-2 c = sym (row-at _ _ _ (omega arith))
@@ -23,6 +23,12 @@ state-at-spec =
     tie.close
     (tie.spec
     returns
+    (λ c. search needs)
+    (λ c. search needs)
+    (λ c. search needs)
+    (λ c. search needs)
+    (λ c. search needs)
+    (λ c. search needs)
     (λ c. search needs)
     (λ c. search needs)
     (λ c. search needs)

@@ -1,4 +1,4 @@
--- `units_in` is safe and ends: each turn passes one state, and a state's three words lie within the table. Assumes nothing.
+-- `units_in` is safe and ends: each turn passes one state, and a state's five words lie within the table. Assumes nothing.
 use Prim.Native.Nat.{_≤_, _*_, _-_}
 use lib.ListN.{length}
 use borrow.Author.Needs.{needs}
@@ -6,7 +6,7 @@ use Rattle.enumerate.proofs.table.units_in.Statement.{statement}
 use Rattle.enumerate.proofs.table.units_in.Tie as tie
 
 abbrev Inv-loop : tie.InvT-loop
-Inv-loop table cell states units₀ i₀ units i = (i ≤ states) × (states * 3 ≤ length table)
+Inv-loop table cell states units₀ i₀ units i = (i ≤ states) × (states * 5 ≤ length table)
 
 abbrev μ-loop : tie.MeasureT-loop
 μ-loop table cell states units₀ i₀ units i = states - i

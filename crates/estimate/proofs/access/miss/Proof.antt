@@ -1,8 +1,10 @@
 -- `miss` adds the states with a block lost, the one that loses nothing, and the one of the units left over. There is room for all: where
 -- every way of the set holds a block, the second has no units.
+use mathlib.Core.Path.{ap}
 use Prim.Native.Nat.{_≤_}
 use native.Mathlib.Omega.{arith}
 use denote.Ref.{now}
+use Rattle.rules.specs.declared.State.{State}
 use Rattle.rules.specs.Contents.{size}
 use Rattle.rules.proofs.Splitting.{split-part, split-rest}
 use Rattle.words.specs.Tables.{tableOf}
@@ -16,40 +18,44 @@ use Rattle.estimate.proofs.access.miss.Tie as tie
 few : (c : tie.After-at-risk) → size (c .at-risk .result) ≤ c .before .before .before .before .before .before .args .ways
 few c = rw (c .at-risk .ensures) (c .before .before .before .before .before .before .pre .1 .2)
 
-sub-t17 : tie.Need-sub-t17
-sub-t17 c = omega (arith, c .size-of .ensures, few (c .before .before .before .before .before))
+-- one more miss can be counted
+countable : (c : tie.After-fuller) → c .fuller .result .misses ≤ 4095
+countable c = omega (arith, ap (λ (s : State). s .misses) (c .fuller .ensures), c .before .before .before .before .before .before .before .pre .1 .0)
 
-mul-t18 : tie.Need-mul-t18
-mul-t18 c =
-    let b = c .before .before .before .before .before .before .before .before .before .before .before .before in
-    let p = c .before .before .before .before .before .before .before .before .before .split in
-    shares-fit _ _ (b .args .s .units .0) (b .args .ways) (omega (arith, b .pre .2)) (split-part (p .result) (b .args .s .units) (b .args .ways) (p .ensures)) (b .pre .1 .1)
+lose-each-requires : tie.Need-lose-each-requires
+lose-each-requires c κs = let b = c .before .before .before .before .before .before .before .before in (b .pre .0 .0, countable (c .before), omega (arith, b .pre .3), b .pre .4)
+
+missed-requires : tie.Need-missed-requires
+missed-requires c κs = (c .before .before .before .before .before .before .before .before .before .before .before .before .before .before .pre .0 .0, countable (c .before .before .before .before .before .before .before))
 
 add-requires : tie.Need-add-requires
 add-requires c κs =
-    let b = c .before .before .before .before .before .before .before .before .before .before .before .before .before .before in
+    let b = c .before .before .before .before .before .before .before .before .before .before .before .before .before .before .before in
     let a = b .args in
     let lost = c .before .before .before .before .before .before .lose-each in
-    let more = lost-count (a .x) (a .s) (c .before .before .before .before .before .before .before .before .at-risk .result) (a .ways) _ (a .n) (tableOf (now (a .words))) (fits-table (now (a .words)) (a .n) (omega (arith, b .pre .3))) _ _ (lost .ensures) in
-    (omega (arith, more, few (c .before .before .before .before .before .before .before .before), b .pre .2, b .pre .3, lost .kept .0), added-rising _ _ _ _ _ (lost .ensures) (b .pre .4))
+    let more = lost-count (a .x) (c .before .before .before .before .before .before .before .before .fuller .result) (c .before .before .before .before .before .before .before .before .before .at-risk .result) (a .ways) _ (a .n) (tableOf (now (a .words))) (fits-table (now (a .words)) (a .n) (omega (arith, b .pre .3))) _ _ (lost .ensures) in
+    (omega (arith, more, few (c .before .before .before .before .before .before .before .before .before), b .pre .2, b .pre .3, lost .kept .0), added-rising _ _ _ _ _ (lost .ensures) (b .pre .4))
+
+missed-requires-2 : tie.Need-missed-requires-2
+missed-requires-2 c κs = (c .before .before .before .before .before .before .before .before .before .before .before .before .before .before .before .before .before .before .before .before .pre .0 .0, countable (c .before .before .before .before .before .before .before .before .before .before .before .before .before))
 
 add-requires-2 : tie.Need-add-requires-2
 add-requires-2 c κs =
-    let b = c .before .before .before .before .before .before .before .before .before .before .before .before .before .before .before .before .before .before .before .before in
+    let b = c .before .before .before .before .before .before .before .before .before .before .before .before .before .before .before .before .before .before .before .before .before in
     let a = b .args in
     let lost = c .before .before .before .before .before .before .before .before .before .before .before .before .lose-each in
     let kept = c .before .before .before .before .before .add in
-    let more = kept-count (a .x) (a .s) (c .before .before .before .before .before .before .before .before .before .before .before .before .before .before .at-risk .result) (a .ways) _ (a .n) (tableOf (now (a .words))) (fits-table (now (a .words)) (a .n) (omega (arith, b .pre .3))) _ _ _ _ _ _
-    (few (c .before .before .before .before .before .before .before .before .before .before .before .before .before .before)) (c .before .before .before .before .before .before .before .before .before .size-of .ensures) (c .before .before .before .before .before .before .missed .ensures) (lost .ensures) (kept .ensures) in
+    let more = kept-count (a .x) (c .before .before .before .before .before .before .before .before .before .before .before .before .before .before .fuller .result) (c .before .before .before .before .before .before .before .before .before .before .before .before .before .before .before .at-risk .result) (a .ways) _ (a .n) (tableOf (now (a .words))) (fits-table (now (a .words)) (a .n) (omega (arith, b .pre .3))) _ _ _ _ _ _ _
+    (few (c .before .before .before .before .before .before .before .before .before .before .before .before .before .before .before)) (c .before .before .before .before .before .before .before .before .before .size-of .ensures) (c .before .before .before .before .before .before .missed .ensures) (lost .ensures) (kept .ensures) in
     (omega (arith, more, b .pre .2, b .pre .3, lost .kept .0, kept .kept .0), added-rising _ _ _ _ _ (kept .ensures) (added-rising _ _ _ _ _ (lost .ensures) (b .pre .4)))
 
 returns : tie.Need-returns
 returns c =
-    let a = c .before .before .before .before .before .before .before .before .before .before .before .before .before .before .before .before .before .before .before .before .before .before .before .args in
-    let p = c .before .before .before .before .before .before .before .before .before .before .before .before .before .before .before .before .before .before .before .before .split in
-    miss-put (a .x) (a .s) (c .before .before .before .before .before .before .before .before .before .before .before .before .before .before .before .before .before .at-risk .result) (a .ways) _ _ _ _ _ _ _ _ _ _ _ _ _ _ (c .before .before .before .before .before .before .before .before .before .before .before .before .before .before .before .before .before .at-risk .ensures)
-    (split-part (p .result) (a .s .units) (a .ways) (p .ensures)) (split-rest (p .result) (a .s .units) (a .ways) (p .ensures)) (c .before .before .before .before .before .before .before .before .before .before .before .before .size-of .ensures)
-    (c .before .before .before .before .rest-of .ensures) (c .before .before .before .before .before .before .before .before .before .missed .ensures) (c .before .before .before .missed2 .ensures) (c .before .before .before .before .before .before .before .before .before .before .before .before .before .before .before .lose-each .ensures) (c .before .before .before .before .before .before .before .before .add .ensures) (c .before .before .add2 .ensures)
+    let a = c .before .before .before .before .before .before .before .before .before .before .before .before .before .before .before .before .before .before .before .before .before .before .before .before .args in
+    let p = c .before .before .before .before .before .before .before .before .before .before .before .before .before .before .before .before .before .before .before .before .before .split in
+    miss-put (a .ways) (a .x) (a .s) (c .before .before .before .before .before .before .before .before .before .before .before .before .before .before .before .before .before .fuller .result) (c .before .before .before .before .before .before .before .before .before .before .before .before .before .before .before .before .before .before .at-risk .result) _ _ _ _ _ _ _ _ _ _ _ _ _ _ (c .before .before .before .before .before .before .before .before .before .before .before .before .before .before .before .before .before .before .at-risk .ensures) (c .before .before .before .before .before .before .before .before .before .before .before .before .before .before .before .before .before .fuller .ensures)
+    (split-part (p .result) (a .s .units) (a .ways) (p .ensures)) (split-rest (p .result) (a .s .units) (a .ways) (p .ensures)) (c .before .before .before .before .before .before .before .before .before .before .before .before .size-of .ensures) (c .before .before .before .before .rest-of .ensures)
+    (c .before .before .before .before .before .before .before .before .before .missed .ensures) (c .before .before .before .missed2 .ensures) (c .before .before .before .before .before .before .before .before .before .before .before .before .before .before .before .lose-each .ensures) (c .before .before .before .before .before .before .before .before .add .ensures) (c .before .before .add2 .ensures)
 
 pub miss-spec : {M : Type 1} → statement M
 miss-spec =
@@ -58,13 +64,14 @@ miss-spec =
     (λ c κs. search needs)
     (λ c κs. search needs)
     (λ c κs. search needs)
+    lose-each-requires
     (λ c κs. search needs)
-    sub-t17
-    mul-t18
-    (λ c κs. search needs)
+    (λ c. omega (arith, c .size-of .ensures, few (c .before .before .before .before .before .before)))
+    (λ c. let b = c .before .before .before .before .before .before .before .before .before .before .before .before .before in let p = c .before .before .before .before .before .before .before .before .before .before .split in shares-fit _ _ (b .args .s .units .0) (b .args .ways) (omega (arith, b .pre .2)) (split-part (p .result) (b .args .s .units) (b .args .ways) (p .ensures)) (b .pre .1 .1))
+    missed-requires
     add-requires
     (λ c κs. search needs)
-    (λ c κs. search needs)
+    missed-requires-2
     add-requires-2
     (λ c. search needs)
     returns)

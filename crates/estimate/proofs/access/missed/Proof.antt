@@ -9,8 +9,8 @@ use Rattle.estimate.proofs.access.missed.Tie as tie
 
 returns : tie.Need-returns
 returns c =
-    let a = c .before .before .args in
-    ap₂ (λ (C m : ℕ). state C m (a .units .0)) (c .before .with-block .ensures) (add-one (a .s .misses))
+    let a = c .before .before .before .args in
+    ap₂ (λ (C m : ℕ). state C m (a .s .filled) (a .units .0)) (c .before .with-block .ensures) (add-one (a .s .misses))
 
 pub missed-spec : {M : Type 1} → statement M
 missed-spec =

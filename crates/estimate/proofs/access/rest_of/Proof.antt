@@ -1,17 +1,13 @@
--- `rest_of` looks whether there is a block that can be lost.
+-- `rest_of` keeps all where nothing can be lost.
 use borrow.Author.Tests.{eq-eqb, ne-eqb}
 use Rattle.estimate.proofs.access.rest_of.Statement.{statement}
 use Rattle.estimate.proofs.access.rest_of.Tie as tie
 
 returns : tie.Need-returns
-returns c = rw (eq-eqb (c .before .args .risk) 0 (c .if1 .taken))
+returns c = rw (eq-eqb _ _ (c .if1 .taken))
 
 returns-2 : tie.Need-returns-2
-returns-2 c = rw (ne-eqb (c .before .args .risk) 0 (c .if1 .left))
+returns-2 c = rw (ne-eqb _ _ (c .if1 .left))
 
 pub rest-of-spec : {M : Type 1} → statement M
-rest-of-spec =
-    tie.close
-    (tie.spec
-    returns
-    returns-2)
+rest-of-spec = tie.close (tie.spec returns returns-2)

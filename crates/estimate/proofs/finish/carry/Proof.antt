@@ -5,7 +5,7 @@ use native.Mathlib.Omega.{arith}
 use denote.Ref.{now}
 use lib.ListN.{length, drop}
 use lib.Seq.{paste, paste-zero}
-use Rattle.estimate.proofs.Calls.{carry-turn}
+use Rattle.estimate.proofs.Handing.{carry-turn}
 use borrow.Author.Needs.{needs}
 use Rattle.estimate.proofs.finish.carry.Statement.{statement}
 use Rattle.estimate.proofs.finish.carry.Tie as tie

@@ -2,8 +2,8 @@
 use native.Mathlib.Omega.{arith}
 use denote.Ref.{now}
 use Rattle.words.specs.Tables.{tableOf}
-use Rattle.estimate.proofs.Graphs.{counted-few}
-use Rattle.estimate.proofs.Calls.{table-long, handed-over}
+use Rattle.estimate.proofs.Nodes.{counted-few}
+use Rattle.estimate.proofs.Handing.{table-long, handed-over}
 use borrow.Author.Needs.{needs}
 use Rattle.estimate.proofs.finish.hand_over.Statement.{statement}
 use Rattle.estimate.proofs.finish.hand_over.Tie as tie

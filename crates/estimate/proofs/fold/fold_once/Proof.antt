@@ -27,6 +27,12 @@ pull-requires-2 c κs =
     let room : a .n ≤ length t = fits-table (now (a .words)) (a .n) (omega arith) in
     (partner-within (take (a .n) t) (a .n) (length-take-le (a .n) t room) (omega arith) _ (p .choose .ensures), search needs)
 
+sub-add : tie.Need-sub-add
+sub-add c =
+    let y = c .before .before .before .before .before .before .before in
+    let p = y .before .before .before .before .before .before in
+    omega (arith, p .before .before .before .pre .0)
+
 add-requires-2 : tie.Need-add-requires-2
 add-requires-2 c κs =
     let y = c .before .before .before .before .before .before .before in
@@ -63,7 +69,7 @@ fold-once-spec =
     pull-requires-2
     (λ c κs. search needs)
     (λ c κs. search needs)
-    (λ c. search needs)
+    sub-add
     add-requires-2
     (λ c κs. search needs)
     (λ c. search needs)

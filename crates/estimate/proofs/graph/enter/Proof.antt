@@ -1,24 +1,31 @@
 -- `enter` stores the start, or copies the first predecessor's table and has the others joined to it.
-use mathlib.Core.Path.{refl, sym, _∙_}
+use mathlib.Core.Path.{refl, sym, ap, _∙_}
 use mathlib.Core.Logic.{inr}
-use Prim.Native.Nat.{_+_}
+use Prim.Native.Nat.{_+_, _*_}
 use native.Mathlib.Omega.{arith}
 use denote.Ref.{now}
-use lib.ListN.{getD}
+use lib.ListN.{getD, set}
+use Rattle.rules.specs.declared.Filled.{Filled}
+use Rattle.rules.specs.Units.{whole}
+use Rattle.rules.specs.Table.{state}
 use Rattle.words.specs.Tables.{tableOf}
 use Rattle.estimate.specs.Edges.{cameFrom}
+use Rattle.estimate.specs.Working.{startOf}
 use Rattle.words.proofs.Tables.{fits-table}
-use Rattle.estimate.proofs.Graphs.{into-here, into-none, lower-here, counted-few, enter-none, enter-some}
+use Rattle.estimate.proofs.Nodes.{counted-few}
+use Rattle.estimate.proofs.Graphs.{into-here, into-none, lower-here, enter-none, enter-some}
 use borrow.Author.Needs.{needs}
 use Rattle.estimate.proofs.graph.enter.Statement.{statement}
 use Rattle.estimate.proofs.graph.enter.Tie as tie
 
 returns : tie.Need-returns
-returns c = let a = c .before .before .before .before .before .before .before .before .args in
-    let n = c .before .before .before .before .before .next-edge in
+returns c = let b = c .before .before .before .before .before .before .before .before .before in
+    let a = b .args in
+    let n = c .before .before .before .before .before .before .next-edge in
     let ns = now (a .edges) in
-    enter-none (a .limit) (a .to) (a .aside .0) (tableOf (now (a .work))) (cameFrom ns (a .to) 0) _ (sym (n .ensures .3) ∙ into-none ns (a .to) (n .result) (omega arith))
-    (fits-table (now (a .work)) 5184 (c .before .before .before .before .before .before .before .before .pre .0)) (c .before .before .before .before .before .before .before .before .pre .1) (c .before .before .store .ensures)
+    enter-none (a .limit) (a .to) (a .aside .0) (tableOf (now (a .work))) (startOf (a .cache)) (cameFrom ns (a .to) 0) _ (sym (n .ensures .3) ∙ into-none ns (a .to) (n .result) (omega arith))
+    (fits-table (now (a .work)) 5184 (b .pre .0)) (b .pre .1)
+    (c .before .before .store .ensures ∙ ap (λ (F : Filled). set (tableOf (now (a .work))) (a .to * 64) (state 0 0 F whole)) (c .before .before .before .before .start-of .ensures))
 
 cast-from : tie.Need-cast-from
 cast-from c = omega (arith, c .shared-slice-known2 .given (c .before .before .next-edge .result))
@@ -55,13 +62,14 @@ returns-2 c = let a = c .before .before .before .before .before .before .before 
     let ns = now (a .edges) in
     let here = n .ensures .2 (omega arith) in
     let low = lower-here ns (a .to) (n .result) (n .ensures .2) (omega arith) (rw (n .ensures .3) (p .4)) in
-    enter-some (a .limit) (a .to) (a .aside .0) (tableOf (now (a .work))) (cameFrom ns (a .to) 0) (cameFrom ns (a .to) (n .result + 2)) (getD ns (n .result) 0) (c .before .before .before .before .before .before .before .before .count .result) _ _ (now (a .work)) (c .before .before .before .before .before .before .copy .last .0) _
+    enter-some (a .limit) (a .to) (a .aside .0) (tableOf (now (a .work))) (startOf (a .cache)) (cameFrom ns (a .to) 0) (cameFrom ns (a .to) (n .result + 2)) (getD ns (n .result) 0) (c .before .before .before .before .before .before .before .before .count .result) _ _ (now (a .work)) (c .before .before .before .before .before .before .copy .last .0) _
     refl (sym (n .ensures .3) ∙ into-here ns (a .to) (n .result) (here .0) (here .1)) (low .0) (p .1) (p .0) (c .before .before .before .before .before .before .before .before .count .ensures) (c .before .before .before .before .before .before .copy .ensures) (c .before .before .join-others .ensures)
 
 pub enter-spec : {M : Type 1} → statement M
 enter-spec =
     tie.close
     (tie.spec
+    (λ c κs. search needs)
     (λ c κs. search needs)
     (λ c. search needs)
     (λ c κs. search needs)

@@ -12,7 +12,8 @@ use Rattle.words.specs.Tables.{tableOf}
 use Rattle.estimate.specs.Rooms.{workedIn}
 use Rattle.estimate.specs.Edges.{cameFrom, AtEdge}
 use Rattle.estimate.specs.Working.{workAt}
-use Rattle.estimate.proofs.Graphs.{into-here, into-none, lower-here, counted-few, join-turn, joined}
+use Rattle.estimate.proofs.Nodes.{counted-few}
+use Rattle.estimate.proofs.Graphs.{into-here, into-none, lower-here, join-turn, joined}
 use borrow.Author.Needs.{needs}
 use Rattle.estimate.proofs.graph.join_others.Statement.{statement}
 use Rattle.estimate.proofs.graph.join_others.Tie as tie

@@ -3,6 +3,7 @@ use Prim.Native.Nat.{_-_, _*_}
 use native.Mathlib.Omega.{arith}
 use denote.Ref.{now}
 use lib.ListN.{length}
+use Rattle.rules.proofs.Refusals.{counts-few}
 use Rattle.words.specs.Tables.{tableOf}
 use Rattle.estimate.proofs.Graphs.{entered-ready, node-few, node-done}
 use borrow.Author.Needs.{needs}
@@ -11,7 +12,7 @@ use Rattle.estimate.proofs.graph.work_node.Tie as tie
 
 enter-requires : tie.Need-enter-requires
 enter-requires c κs = let s = c .before .before .before .before .before .pre .1 in
-    (s .room, s .node, s .ranges .some-states, s .ranges .few-states, s .lower)
+    (s .room, s .node, s .ranges .some-states, s .ranges .few-states, s .lower, s .ranges .few-ways, counts-few _ (s .ranges .known-sets))
 
 run-requires : tie.Need-run-requires
 run-requires c κs = let a = c .before .before .before .before .before .before .before .before .before .args in

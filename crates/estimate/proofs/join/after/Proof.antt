@@ -8,11 +8,11 @@ use Rattle.estimate.proofs.join.after.Statement.{statement}
 use Rattle.estimate.proofs.join.after.Tie as tie
 
 returns : tie.Need-returns
-returns c = let a = c .before .before .before .before .before .before .before .args in
+returns c = let a = c .before .before .before .before .before .before .before .before .args in
     after-all (take (a .m) (drop (a .from) (tableOf (now (a .words))))) (a .used .0) (a .front) _ (c .before .if1 .taken) (c .front-at .ensures)
 
 returns-2 : tie.Need-returns-2
-returns-2 c = let a = c .before .before .before .before .before .before .before .before .args in
+returns-2 c = let a = c .before .before .before .before .before .before .before .before .before .args in
     after-some (take (a .m) (drop (a .from) (tableOf (now (a .words))))) (a .used .0) (a .front) (c .before .before .if1 .left)
 
 pub after-spec : {M : Type 1} → statement M

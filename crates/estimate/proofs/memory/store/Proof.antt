@@ -1,4 +1,4 @@
--- `store` writes the three words of a state, and no other.
+-- `store` writes the five words of a state, and no other.
 use native.Mathlib.Omega.{arith}
 use lib.ListN.{length-set}
 use Rattle.words.proofs.Tables.{table-stored}
@@ -11,6 +11,12 @@ slice-write-words-2 c = simp length-set (omega arith)
 
 slice-write-words-3 : tie.Need-slice-write-words-3
 slice-write-words-3 c = simp length-set (omega arith)
+
+slice-write-words-4 : tie.Need-slice-write-words-4
+slice-write-words-4 c = simp length-set (omega arith)
+
+slice-write-words-5 : tie.Need-slice-write-words-5
+slice-write-words-5 c = simp length-set (omega arith)
 
 returns : tie.Need-returns
 returns c = table-stored _ _ _
@@ -28,5 +34,11 @@ store-spec =
     (λ c. search needs)
     (λ c. search needs)
     slice-write-words-3
+    (λ c. search needs)
+    (λ c. search needs)
+    slice-write-words-4
+    (λ c. search needs)
+    (λ c. search needs)
+    slice-write-words-5
     (λ c. search needs)
     returns)

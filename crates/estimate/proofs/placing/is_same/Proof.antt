@@ -1,17 +1,20 @@
--- `is_same` is what the order says: equal masks and equal misses.
-use Rattle.estimate.proofs.Insertion.{misses-same, mask-apart}
+-- `is_same` is what the order says: equal masks, equal misses and equal filled numbers.
+use borrow.Author.Needs.{needs}
+use Rattle.estimate.proofs.Insertion.{mask-apart, misses-apart, filled-same}
 use Rattle.estimate.proofs.placing.is_same.Statement.{statement}
 use Rattle.estimate.proofs.placing.is_same.Tie as tie
 
 returns : tie.Need-returns
-returns c = misses-same _ _ (c .before .before .if1 .taken)
+returns c = mask-apart _ _ (c .if1 .taken)
 
 returns-2 : tie.Need-returns-2
-returns-2 c = mask-apart _ _ (c .if1 .left)
+returns-2 c = misses-apart _ _ (c .before .before .before .if1 .left) (c .if2 .taken)
+
+returns-3 : tie.Need-returns-3
+returns-3 c =
+    let first = c .before .before .before .before in
+    let a = first .before .before .before .args in
+    filled-same (a .s) (a .t) (first .if1 .left) (c .before .if2 .left) _ (c .same-filled .ensures)
 
 pub is-same-spec : {M : Type 1} → statement M
-is-same-spec =
-    tie.close
-    (tie.spec
-    returns
-    returns-2)
+is-same-spec = tie.close (tie.spec returns returns-2 (λ c κs. search needs) returns-3)

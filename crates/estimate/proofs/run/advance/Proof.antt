@@ -3,7 +3,7 @@ use native.Mathlib.Omega.{arith}
 use denote.Ref.{now}
 use Rattle.rules.specs.Shape.{Aimed}
 use Rattle.estimate.specs.Working.{workAt}
-use Rattle.estimate.proofs.Settling.{workable, listed-sixteen, aimed-so, gathered-fits, advanced}
+use Rattle.estimate.proofs.Settling.{workable, placed, aimed-so, gathered-fits, advanced}
 use borrow.Author.Needs.{needs}
 use Rattle.estimate.proofs.run.advance.Statement.{statement}
 use Rattle.estimate.proofs.run.advance.Tie as tie
@@ -13,19 +13,19 @@ aim-requires c κs = let p = c .before .before .pre in (p .ranges .few-tracked, 
 
 -- the access is after a block of the cache
 aims : (c : tie.After-aim) → Aimed (c .before .before .before .args .cache .sets) (now (c .before .before .before .args .tracked)) (c .aim .result)
-aims c = let a = c .before .before .before .args in aimed-so _ _ (a .last) (a .block) _ (c .aim .ensures)
+aims c = let a = c .before .before .before .args in aimed-so _ _ (c .before .before .before .pre .ranges .known-sets) (a .last) (a .block) _ (c .aim .ensures)
 
 gather-requires : tie.Need-gather-requires
 gather-requires c κs =
     let a = c .before .before .before .before .before .args in
     let p = c .before .before .before .before .before .pre in (
-      listed-sixteen (a .cache .ways) (a .cache .sets) (now (a .tracked)) _ (aims (c .before .before)) (p .ranges .few-tracked),
+      placed (a .cache .ways) (a .cache .sets) (now (a .tracked)) (p .ranges .few-ways) _ (aims (c .before .before)) (p .ranges .few-tracked),
       p .ranges .few-ways,
       p .count,
       omega (arith, p .slot, p .count),
       p .room,
       p .aside,
-      workable (a .cache .ways) (a .cache .sets) (now (a .tracked)) _ (aims (c .before .before)) (a .limit) 4095 _ (omega arith) (p .table),
+      workable (a .cache .ways) (a .cache .sets) (now (a .tracked)) (p .ranges .few-ways) _ (aims (c .before .before)) (a .limit) 4095 _ (omega arith) (p .table),
     )
 
 settle-requires : tie.Need-settle-requires

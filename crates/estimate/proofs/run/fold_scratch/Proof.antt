@@ -17,7 +17,7 @@ returns : tie.Need-returns
 returns c = let b = c .before .before .before .before .before in
     let w = now (b .args .work) in
     let f = c .before .before .fold-down in
-    let fits : 12288 ≤ length w = omega (arith, b .pre .0) in
+    let fits : 20480 ≤ length w = omega (arith, b .pre .0) in
     record {
       stands = rw (back-scratch w 4096 (f .last .0) fits, ← part-table w 4096) (f .ensures);
       before = back-slots w 4096 (f .last .0) fits;

@@ -5,7 +5,7 @@ use native.Mathlib.Omega.{arith}
 use denote.Ref.{now}
 use lib.ListN.{length, replicate}
 use lib.Seq.{paste, paste-zero}
-use Rattle.rules.specs.Table.{state}
+use Rattle.rules.specs.Table.{noState}
 use Rattle.words.specs.Tables.{tableOf}
 use Rattle.words.proofs.Tables.{fits-table}
 use Rattle.estimate.proofs.Nodes.{seal-turn}
@@ -14,7 +14,7 @@ use Rattle.estimate.proofs.slots.seal.Statement.{statement}
 use Rattle.estimate.proofs.slots.seal.Tie as tie
 
 abbrev Inv-loop : tie.InvT-loop
-Inv-loop work₀ at n i₀ work i = (n ≤ i) × (i ≤ 64) × (length work ≡ length work₀) × (tableOf work ≡ paste (tableOf work₀) (at + n) (replicate 64 (state 0 0 0)) (i - n))
+Inv-loop work₀ at n i₀ work i = (n ≤ i) × (i ≤ 64) × (length work ≡ length work₀) × (tableOf work ≡ paste (tableOf work₀) (at + n) (replicate 64 noState) (i - n))
 
 abbrev μ-loop : tie.MeasureT-loop
 μ-loop work₀ at n i₀ work i = 64 - i
@@ -22,7 +22,7 @@ abbrev μ-loop : tie.MeasureT-loop
 loop-holds : tie.Need-loop-holds Inv-loop μ-loop
 loop-holds c = let a = c .before .args in
     let none : a .n - a .n ≡ 0 = omega arith in
-    (search needs, search needs, refl, rw none (paste-zero (tableOf (now (a .work))) (a .at + a .n) (replicate 64 (state 0 0 0))))
+    (search needs, search needs, refl, rw none (paste-zero (tableOf (now (a .work))) (a .at + a .n) (replicate 64 noState)))
 
 loop-again : tie.Need-loop-again Inv-loop μ-loop
 loop-again c = let b = c .before .before .before .before .before in

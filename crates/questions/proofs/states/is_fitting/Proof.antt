@@ -1,5 +1,7 @@
 -- `is_fitting` meets its contract: each early return is one test of the definition that fails.
-use Rattle.questions.proofs.Fitting.{mask-large, misses-many, by-units}
+use borrow.Author.Needs.{needs}
+use borrow.Author.Tests.{not-true, not-false}
+use Rattle.questions.proofs.Fitting.{mask-large, misses-many, numbers-large, by-units}
 use Rattle.questions.proofs.states.is_fitting.Statement.{statement}
 use Rattle.questions.proofs.states.is_fitting.Tie as tie
 
@@ -12,7 +14,13 @@ returns-2 c = misses-many (c .before .before .before .before .args .s) (c .befor
 returns-3 : tie.Need-returns-3
 returns-3 c =
     let second = c .before .before in
-    by-units (second .before .before .before .before .args .s) (second .before .before .if1 .left) (second .if2 .left)
+    numbers-large (second .before .before .before .before .args .s) (second .before .before .if1 .left) (second .if2 .left) _ (c .before .numbers-fit .ensures) (not-true _ (c .if3 .taken))
+
+returns-4 : tie.Need-returns-4
+returns-4 c =
+    let third = c .before .before in
+    let second = third .before .before in
+    by-units (second .before .before .before .before .args .s) (second .before .before .if1 .left) (second .if2 .left) _ (third .before .numbers-fit .ensures) (not-false _ (third .if3 .left))
 
 pub is-fitting-spec : {M : Type 1} → statement M
-is-fitting-spec = tie.close (tie.spec returns returns-2 returns-3)
+is-fitting-spec = tie.close (tie.spec returns returns-2 (λ c κs. search needs) returns-3 returns-4)

@@ -38,11 +38,11 @@ use denote.Triple.Entry.{onEntry}
 use denote.Triple.Walked.{Stays, stay-none-slice, walkOf, goes-none-slice}
 use denote.Exit.{yes}
 use Rattle.rules.specs.declared.State.{State}
-use Rattle.rules.specs.Table.{state, stateAt}
+use Rattle.rules.specs.Table.{noState, stateAt}
 use Rattle.rows.specs.declared.row.Held.{Held}
 use Rattle.rows.specs.Rows.{nothingHeld, oneMore, moreOf, copied}
 use Rattle.rows.proofs.LentRow.{StateT, HeldT, RowT, state-vals, state-mir, held-mir, slice, state-typed, state-makes, held-typed, held-makes}
-use Rattle.rows.proofs.LentRow.{Lent, lends, fits·24, elem-in, elem-done, Copied}
+use Rattle.rows.proofs.LentRow.{Lent, lends, fits·40, elem-in, elem-done, Copied}
 use Rattle.rows.proofs.Walk.{Claim, claims, Keeps, Alive, asks, leaves, within, known, proves}
 use Rattle.rows.proofs.row.nothing as none
 use Rattle.rows.proofs.row.nothing.Symbol.{name as #nothing, routine as nothing-routine}
@@ -92,7 +92,7 @@ more = second (second (second parts.turn-1))
 
 -- ---- one state more, and none left
 goes-on : (h : Held) (ys : List State) (i : ℕ) → i < length ys → moreOf h (rest-of i ys) ≡ moreOf (oneMore h (stateAt ys i)) (rest-of (i + 1) ys)
-goes-on h ys i l = ap (moreOf h) (drop-cons ys i (state 0 0 0) l) ∙ ap (λ (j : ℕ). moreOf (oneMore h (stateAt ys i)) (rest-of j ys)) (sym (add-one i))
+goes-on h ys i l = ap (moreOf h) (drop-cons ys i noState l) ∙ ap (λ (j : ℕ). moreOf (oneMore h (stateAt ys i)) (rest-of j ys)) (sym (add-one i))
 
 is-over : (h : Held) (ys : List State) (i : ℕ) → i ≡ length ys → moreOf h (rest-of i ys) ≡ h
 is-over h ys i e = ap (λ (j : ℕ). moreOf h (rest-of j ys)) e ∙ ap (moreOf h) (drop-length ys)
@@ -180,8 +180,8 @@ module _ {M : Type 1} (𝓤 : URA M) (H : Heap 𝓤) (A : Atoms 𝓤) (W : Given
         keep ! (0 ∷ 2 ∷ []) $ nothing ! $ move ! (1 ∷ 0 ∷ []) $ join ! $ use1 W (Alive 𝓤 H A copy.ended x) (id⊢ 𝓤 _) $ owned ! HeldT (Is HeldT) (held-makes 𝓤 H A) (t .2) _ (t .4) $
         leaves ! copy.ended stayed Copied x (t .1) (t .2) (tt, tt) (tt, tt) (sym (is-over (t .2) ys (t .0) (le-antisymm (t .3) (nltb→le (t .0) n over))) ∙ t .5))
       where
-        place-fits : T (ltb (t .0) n) → t .0 * 24 < 2 ^ 64
-        place-fits less = fits·24 n (t .0) room (ltb→lt (t .0) n less)
+        place-fits : T (ltb (t .0) n) → t .0 * 40 < 2 ^ 64
+        place-fits less = fits·40 n (t .0) room (ltb→lt (t .0) n less)
 
         next-fits : T (ltb (t .0) n) → t .0 + 1 < 2 ^ 64
         next-fits less = lt-of-le-of-lt (add-one-le (ltb→lt (t .0) n less)) (room .0)
