@@ -97,7 +97,7 @@ static uint64_t *room_or_null(const struct run *run, uint64_t *room, size_t word
 static struct plain_input lists_of(const struct run *run, const struct input *input)
 {
     return (struct plain_input){
-        input->sets, input->ways, input->revision, input->limit,
+        input->sets, input->ways, input->revision, input->start, input->limit,
         list_or_null(run, input->tracked, input->tracked_count), input->tracked_count,
         list_or_null(run, input->runs, input->nodes), input->nodes,
         list_or_null(run, input->accesses, input->access_count), input->access_count,
@@ -127,11 +127,11 @@ static int compare_graph(struct run *run, const struct input *input, struct room
     uint64_t aside = PATTERN, plain_aside = PATTERN;
     const struct plain_input in = lists_of(run, input);
     fill(rooms, 0);
-    uint64_t ours = estimate_graph(in.sets, in.ways, in.revision, in.limit, in.tracked, in.tracked_count, in.runs, in.nodes,
+    uint64_t ours = estimate_graph(in.sets, in.ways, in.revision, in.start, in.limit, in.tracked, in.tracked_count, in.runs, in.nodes,
                                    in.accesses, in.access_count, in.edges, in.edge_numbers,
                                    room_or_null(run, rooms->result, input->result_words), input->result_words,
                                    room_or_null(run, rooms->work, input->work_words), input->work_words, &states, &aside);
-    int plain = plain_graph(in.sets, in.ways, in.revision, in.limit, in.tracked, in.tracked_count, in.runs, in.nodes,
+    int plain = plain_graph(in.sets, in.ways, in.revision, in.start, in.limit, in.tracked, in.tracked_count, in.runs, in.nodes,
                             in.accesses, in.access_count, in.edges, in.edge_numbers,
                             input->result_words, input->work_words, table, &plain_states, &plain_aside);
     run->graphs[plain]++;
@@ -156,7 +156,7 @@ static uint64_t compare_longest_path(struct run *run, const struct input *input)
 {
     uint64_t longest = PATTERN, plain_longest = PATTERN;
     const struct plain_input in = lists_of(run, input);
-    uint64_t ours = estimate_longest_path(in.sets, in.ways, in.revision, in.limit, in.tracked, in.tracked_count, in.runs, in.nodes,
+    uint64_t ours = estimate_longest_path(in.sets, in.ways, in.revision, in.start, in.limit, in.tracked, in.tracked_count, in.runs, in.nodes,
                                           in.accesses, in.access_count, in.edges, in.edge_numbers, &longest);
     int plain = plain_longest_path(&in, &plain_longest);
     run->longest_paths[plain]++;

@@ -26,7 +26,7 @@ static const struct core cores[PLAIN_CORES] = {
 /* The first of the refusals 1, 10, 11 and 2 to 5 that applies, or 0: those come before 6, which the graph call gives in no room at all. */
 static int graph_refusal(const struct plain_input *graph)
 {
-    int number = plain_graph(graph->sets, graph->ways, graph->revision, graph->limit, graph->tracked, graph->tracked_count,
+    int number = plain_graph(graph->sets, graph->ways, graph->revision, graph->start, graph->limit, graph->tracked, graph->tracked_count,
                              graph->runs, graph->nodes, graph->accesses, graph->access_count, graph->edges, graph->edge_numbers,
                              0, 0, NULL, NULL, NULL);
     return number == 6 ? 0 : number;
@@ -148,7 +148,7 @@ static int work_text(const unsigned char *text, size_t bytes, struct finished *f
     int number = plain_longest_path(&graph, &finished->longest);
     if (number != 0)
         return number;
-    plain_graph(graph.sets, graph.ways, graph.revision, graph.limit, graph.tracked, graph.tracked_count,
+    plain_graph(graph.sets, graph.ways, graph.revision, graph.start, graph.limit, graph.tracked, graph.tracked_count,
                 graph.runs, graph.nodes, graph.accesses, graph.access_count, graph.edges, graph.edge_numbers,
                 RESULT_WORDS, WORK_WORDS, finished->row, &finished->states, &finished->aside);
     return plain_spread(finished->row, finished->states, finished->counts, MOST_ACCESSES + 1, &finished->largest);

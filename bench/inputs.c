@@ -175,6 +175,7 @@ static void choose_any(struct generator *from, struct input *input)
     input->sets = one_in(from, 2) ? 1 : 2u << draw_below(from, 4);
     input->ways = draw_between(from, 1, most_ways[draw_below(from, 4)]);
     input->revision = draw_between(from, 1, 2);
+    input->start = one_in(from, 3) ? PLAIN_WARM : PLAIN_COLD;
     input->limit = draw_between(from, 1, most_limit[draw_below(from, 4)]);
     input->nodes = draw_between(from, 1, most_nodes[draw_below(from, 8)]);
     input->access_count = draw_access_count(from, (uint32_t)input->nodes);
@@ -190,6 +191,7 @@ static void choose_filling(struct generator *from, struct input *input)
     input->sets = 2u << draw_below(from, 4);
     input->ways = one_in(from, 4) ? draw_between(from, 2, 5) : 3;
     input->revision = 2;
+    input->start = PLAIN_COLD;
     input->limit = draw_between(from, 8, 16);
     input->nodes = one_in(from, 4) ? draw_between(from, 2, 4) : 1;
     input->access_count = draw_between(from, 12, 40);
@@ -875,6 +877,7 @@ static void make_straight_run(struct input *input, enum order order, size_t acce
     struct generator from = generator_of(2, order);
     input->sets = 1;
     input->revision = 1;
+    input->start = PLAIN_COLD;
     input->ways = ways;
     input->limit = limit;
     input->tracked_count = 16;

@@ -29,7 +29,7 @@ struct generator {
 
 /* Everything the graph call takes; the rooms are how many words are lent. */
 struct input {
-    uint32_t sets, ways, revision, limit;
+    uint32_t sets, ways, revision, start, limit;
     size_t tracked_count, nodes, access_count, edge_numbers, result_words, work_words;
     uint32_t tracked[INPUT_TRACKED_ROOM];
     uint32_t runs[INPUT_NODES_ROOM];

@@ -31,7 +31,7 @@ typedef void graph_call(const struct input *input, struct outcome *outcome);
 static void call_ours(const struct input *input, struct outcome *outcome)
 {
     static uint64_t work[ESTIMATE_WORK_WORDS];
-    outcome->refusal = estimate_graph(input->sets, input->ways, input->revision, input->limit, input->tracked,
+    outcome->refusal = estimate_graph(input->sets, input->ways, input->revision, input->start, input->limit, input->tracked,
                                       input->tracked_count, input->runs, input->nodes, input->accesses, input->access_count,
                                       input->edges, input->edge_numbers, outcome->table, ESTIMATE_RESULT_WORDS,
                                       work, ESTIMATE_WORK_WORDS, &outcome->states, &outcome->aside);
@@ -41,7 +41,7 @@ static void call_plain(const struct input *input, struct outcome *outcome)
 {
     struct plain_state table[ESTIMATE_MOST_STATES];
     size_t states = 0;
-    outcome->refusal = (uint64_t)plain_graph(input->sets, input->ways, input->revision, input->limit, input->tracked,
+    outcome->refusal = (uint64_t)plain_graph(input->sets, input->ways, input->revision, input->start, input->limit, input->tracked,
                                              input->tracked_count, input->runs, input->nodes, input->accesses,
                                              input->access_count, input->edges, input->edge_numbers, ESTIMATE_RESULT_WORDS,
                                              ESTIMATE_WORK_WORDS, table, &states, &outcome->aside);

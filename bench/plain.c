@@ -141,10 +141,10 @@ static uint64_t larger_bytes(uint64_t a, uint64_t b)
 }
 
 /* Section 3, the start: "one state: nothing held, 0 misses, WHOLE units". 6/13: "The number is 0 at the start"; "For the first revision the
- * numbers are all N"; "sets beyond the count have 0". */
+ * numbers are all N"; "sets beyond the count have 0". 12/13: "For revision 2 this needs starting filled numbers of N". */
 static void start_table(struct table *table, const struct plain_input *graph)
 {
-    uint64_t number = graph->revision == 2 ? 0 : graph->ways;
+    uint64_t number = graph->revision == 2 && graph->start == PLAIN_COLD ? 0 : graph->ways;
     table->count = 1;
     table->states[0] = (struct plain_state){.units = WHOLE};
     for (uint32_t set = 0; set < graph->sets; set++) {
@@ -496,7 +496,7 @@ static int refusal(const struct plain_input *graph, size_t result_words, size_t 
     return 0;
 }
 
-int plain_graph(uint32_t sets, uint32_t ways, uint32_t revision, uint32_t limit,
+int plain_graph(uint32_t sets, uint32_t ways, uint32_t revision, uint32_t start, uint32_t limit,
                 const uint32_t *tracked, size_t tracked_count,
                 const uint32_t *runs, size_t nodes,
                 const uint32_t *accesses, size_t access_count,
@@ -505,7 +505,7 @@ int plain_graph(uint32_t sets, uint32_t ways, uint32_t revision, uint32_t limit,
                 struct plain_state *table, size_t *states, uint64_t *aside)
 {
     const struct plain_input graph = {
-        sets, ways, revision, limit, tracked, tracked_count, runs, nodes, accesses, access_count, edges, edge_numbers,
+        sets, ways, revision, start, limit, tracked, tracked_count, runs, nodes, accesses, access_count, edges, edge_numbers,
     };
     struct table finished;
     int number = refusal(&graph, result_words, work_words);
@@ -686,11 +686,13 @@ static bool take_list(struct plain_numbers *numbers, size_t each, const uint32_t
 }
 
 /* "ways, K, tracked count, tracked blocks, node count, run lengths, access count, accesses, edge count, edges. Anything else, a missing
- * number or one left over gives 9." 1/13: "the curve program keeps one" set. 6/13: it "stays on the first revision". */
+ * number or one left over gives 9." 1/13: "the curve program keeps one" set. 6/13: it "stays on the first revision", in which
+ * both starts are the same. */
 static bool take_graph(struct plain_numbers *numbers, struct plain_input *graph)
 {
     graph->sets = 1;
     graph->revision = 1;
+    graph->start = PLAIN_COLD;
     return take_number(numbers, &graph->ways)
         && take_number(numbers, &graph->limit)
         && take_list(numbers, 1, &graph->tracked, &graph->tracked_count)
@@ -749,7 +751,7 @@ size_t plain_curve(const unsigned char *text, size_t bytes, unsigned char *outpu
     uint64_t aside;
     if (!plain_read(text, bytes, &numbers, &graph))
         return write_refusal(output, 9);
-    int number = plain_graph(graph.sets, graph.ways, graph.revision, graph.limit, graph.tracked, graph.tracked_count,
+    int number = plain_graph(graph.sets, graph.ways, graph.revision, graph.start, graph.limit, graph.tracked, graph.tracked_count,
                              graph.runs, graph.nodes, graph.accesses, graph.access_count, graph.edges, graph.edge_numbers,
                              MOST_STATES * STATE_WORDS, WORKING_STATES * STATE_WORDS, row, &states, &aside);
     if (number != 0)

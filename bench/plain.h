@@ -1,4 +1,4 @@
-/* Document 01 in plain C, with requests 1/13, 3/13, 4/13 and 6/13 of document 02: the graph call (sections 2, 3 and 5), the
+/* Document 01 in plain C, with requests 1/13, 3/13, 4/13, 6/13 and 12/13 of document 02: the graph call (sections 2, 3 and 5), the
  * questions (section 4) and the curve as text (section 7). It is what the proved library is compared with and measured against. No state
  * is kept between calls. */
 #ifndef PLAIN_H
@@ -22,9 +22,13 @@ struct plain_state {
 };
 #define PLAIN_STATE_WORDS 5
 
-/* What comes in (section 2, the sets of 1/13 and the revision of 6/13). */
+/* The starts of 12/13: on an empty cache, or on a used one. */
+#define PLAIN_COLD 0
+#define PLAIN_WARM 1
+
+/* What comes in (section 2, the sets of 1/13, the revision of 6/13 and the start of 12/13). */
 struct plain_input {
-    uint32_t sets, ways, revision, limit;
+    uint32_t sets, ways, revision, start, limit;
     const uint32_t *tracked;
     size_t tracked_count;
     const uint32_t *runs;
@@ -44,7 +48,7 @@ struct plain_numbers {
 /* The graph call. Gives 0, or the number of the first of the refusals 1, 10, 11 and 2 to 6 that applies, and then writes nothing. A room of
  * so many words holds a fifth as many states; `table` is the result room, and is zero beyond the finished table. The working room is only
  * checked: the work is done on the stack. */
-int plain_graph(uint32_t sets, uint32_t ways, uint32_t revision, uint32_t limit,
+int plain_graph(uint32_t sets, uint32_t ways, uint32_t revision, uint32_t start, uint32_t limit,
                 const uint32_t *tracked, size_t tracked_count,
                 const uint32_t *runs, size_t nodes,
                 const uint32_t *accesses, size_t access_count,
@@ -64,8 +68,8 @@ int plain_smallest_budget(const struct plain_state *row, size_t states, uint64_t
 /* The units at each miss count from 0 to the largest, in a room of so many counts, zero beyond them. Gives 0, 7 or 8. */
 int plain_spread(const struct plain_state *row, size_t states, uint64_t *counts, size_t room, uint64_t *largest);
 
-/* Reads a text (section 7) into its numbers, in which the lists of the input then lie; it has one set, of the first revision.
- * False if it is malformed. */
+/* Reads a text (section 7) into its numbers, in which the lists of the input then lie; it has one set, of the first revision, and
+ * starts cold. False if it is malformed. */
 bool plain_read(const unsigned char *text, size_t bytes, struct plain_numbers *numbers, struct plain_input *graph);
 
 /* What the curve program prints for this text, a refusal too: how many bytes of it there are in `output`. */

@@ -38,14 +38,14 @@ int main(void)
     uint64_t aside, budget, above, longest, cycles_0, cycles_7;
     const uint64_t allowance = ESTIMATE_WHOLE / 1000000000;
 
-    uint64_t refused = estimate_graph(1, 8, 1, 64, tracked, 5, runs, 4, accesses, count, edges, 8,
+    uint64_t refused = estimate_graph(1, 8, 1, ESTIMATE_COLD, 64, tracked, 5, runs, 4, accesses, count, edges, 8,
                                       result, ESTIMATE_RESULT_WORDS, work, ESTIMATE_WORK_WORDS, &states, &aside);
     if (!refused)
         refused = estimate_smallest_budget(result, ESTIMATE_RESULT_WORDS, states, allowance, &budget);
     if (!refused)
         refused = estimate_above(result, ESTIMATE_RESULT_WORDS, states, budget, &above);
     if (!refused)
-        refused = estimate_longest_path(1, 8, 1, 64, tracked, 5, runs, 4, accesses, count, edges, 8, &longest);
+        refused = estimate_longest_path(1, 8, 1, ESTIMATE_COLD, 64, tracked, 5, runs, 4, accesses, count, edges, 8, &longest);
     if (!refused)
         refused = estimate_smallest_cycles(result, ESTIMATE_RESULT_WORDS, states, 0, longest, allowance, &cycles_0);
     if (!refused)

@@ -18,11 +18,12 @@
 #ifndef ESTIMATE_H
 #define ESTIMATE_H
 
+#include <stdbool.h>
 #include <stddef.h>
 #include <stdint.h>
 
 /* The version of what is declared here: it rises where a function, a constant or what a call gives changes. */
-#define ESTIMATE_VERSION 3
+#define ESTIMATE_VERSION 4
 
 #ifdef __cplusplus
 extern "C" {
@@ -50,6 +51,10 @@ struct estimate_state {
  * one. */
 #define ESTIMATE_FIRST_REVISION 1
 #define ESTIMATE_SECOND_REVISION 2
+
+/* How the cache is found before the first access: empty, or used, so that any way may hold any block. In the first revision both have the same answers. */
+#define ESTIMATE_COLD false
+#define ESTIMATE_WARM true
 
 /* Rooms that are long enough whatever comes in: of a result, of the work, of a spread, of the numbers of a text, of a curve's text,
  * and of the text of the curves in cycles. */
@@ -90,11 +95,11 @@ enum estimate_refusal {
 };
 
 /* The graph call: a cache of `sets` sets of `ways` ways, in which a block belongs to the set given by its number modulo `sets`; the core's `revision`,
- * 1 or 2; at most `limit` states; the
+ * 1 or 2; `warm` if the cache was used before, and ESTIMATE_COLD if it is empty at first; at most `limit` states; the
  * tracked blocks; the length of each node's run; all accesses, node after node; the edges, from and to, two numbers each. Gives ESTIMATE_DONE, or the first of
  * 1, 10, 11, 2, 3, 4, 5, 6 that applies. Done, `result` begins with the finished table and is zero beyond it, `work` is zero, `*states` is how many states the
  * table has and `*aside` how many units were set aside. Refused, nothing is written. */
-uint64_t estimate_graph(uint32_t sets, uint32_t ways, uint32_t revision, uint32_t limit,
+uint64_t estimate_graph(uint32_t sets, uint32_t ways, uint32_t revision, bool warm, uint32_t limit,
                         const uint32_t *tracked, size_t tracked_count,
                         const uint32_t *runs, size_t nodes,
                         const uint32_t *accesses, size_t access_count,
@@ -118,7 +123,7 @@ uint64_t estimate_spread(const uint64_t *table, size_t words, size_t states, uin
 
 /* The accesses of the longest path from the first node to the last go to `*longest`. Gives ESTIMATE_DONE, or the first of 1, 10, 11, 2, 3, 4, 5 that applies, as the
  * graph call does; a refusal writes nothing. */
-uint64_t estimate_longest_path(uint32_t sets, uint32_t ways, uint32_t revision, uint32_t limit,
+uint64_t estimate_longest_path(uint32_t sets, uint32_t ways, uint32_t revision, bool warm, uint32_t limit,
                                const uint32_t *tracked, size_t tracked_count,
                                const uint32_t *runs, size_t nodes,
                                const uint32_t *accesses, size_t access_count,

@@ -68,17 +68,17 @@ void print_table(const struct lent *lent, size_t sets)
     expect_zero(&lent->work, 0);
 }
 
-/* graph SETS REVISION WARM INPUT: WARM is 0, the cold start. */
+/* graph SETS REVISION WARM INPUT: WARM is 1, or 0 for the cold start. */
 bool answer_graph(const struct words *words)
 {
     struct graph graph;
     uint32_t sets, revision, warm;
     size_t taken = 0;
     if (!take_half(words, &taken, &sets) || !take_half(words, &taken, &revision) || !take_half(words, &taken, &warm)
-        || warm != 0 || !take_graph(words, &taken, &graph))
+        || warm > 1 || !take_graph(words, &taken, &graph))
         return false;
     struct lent lent = lend_for(words);
-    uint64_t refused = estimate_graph(sets, graph.ways, revision, graph.limit,
+    uint64_t refused = estimate_graph(sets, graph.ways, revision, warm == 1 ? ESTIMATE_WARM : ESTIMATE_COLD, graph.limit,
                                       graph.tracked, graph.tracked_count, graph.runs, graph.nodes,
                                       graph.accesses, graph.access_count, graph.edges, graph.edge_numbers,
                                       lent.result.at, lent.result_words, lent.work.at, lent.work_words, &lent.states, &lent.aside);

@@ -1,7 +1,38 @@
-# What tools/curve, tools/cycles and tools/trace share; sourced by them. A command sets `usage` first, what `--help` prints.
+# What tools/curve, tools/cycles and tools/trace share; sourced by them. A command sets `usage`, what `--help` prints.
 
 # the program's own arguments, which a command may set
 words=()
+
+# where a core is chosen, the set count, the revision and the start (1 for a used cache): they stand before each text then
+chosen=
+
+# what the options that choose a core mean
+options="Another core than document 01's is chosen before the files: --sets N for 1, 2, 4, 8 or 16 sets; --revision 2 for the one that fills an empty way of the set first;
+--warm for a cache that was used before the first access. Without them it has one set, is of the first revision and starts empty."
+
+# ARGUMENTS: takes these options from their front; `rest` are the others
+take_options() {
+    local sets=1 revision=1 used=0
+    while :; do
+        case ${1-} in
+        --sets | --revision)
+            case ${2-} in '' | *[!0-9]*) echo "$usage" >&2; exit 2 ;; esac
+            if [ "$1" = --sets ]; then sets=$2; else revision=$2; fi
+            shift
+            ;;
+        --warm) used=1 ;;
+        *) break ;;
+        esac
+        shift
+        chosen="$sets $revision $used"
+    done
+    rest=("$@")
+}
+
+# NAME: the program of that name on standard input, with what is chosen before it
+run_chosen() {
+    if [ -n "$chosen" ]; then { echo "$chosen"; cat; } | start "$1" ${words[@]+"${words[@]}"}; else start "$1" ${words[@]+"${words[@]}"}; fi
+}
 
 # NUMBER: the rule of that number in words, as document 01, section 5, and document 02 have them
 rule() {
@@ -13,6 +44,8 @@ rule() {
     5) echo 'nodes outside 1..64, run lengths that do not sum to the accesses, or an edge rule broken: an edge goes backwards or to no node, edges are' \
         'not listed rising by to and then by from, a node but the first has no edge in, or one but the last no edge out' ;;
     9) echo 'malformed text: something else than numbers between spaces and newlines, a number too large, too many of them, one missing or one left over' ;;
+    10) echo 'sets other than 1, 2, 4, 8 or 16' ;;
+    11) echo 'a revision other than 1 or 2' ;;
     12) echo 'a trace that is no multiple of 512 bytes' ;;
     13) echo 'a damaged block at that place: its check, its zeros, its count or its number is wrong' ;;
     21) echo 'more than 1,024 blocks' ;;
@@ -21,7 +54,7 @@ rule() {
 
 # NAME FILE: the program on standard input; what it writes goes on to standard output, and a refusal to standard error as well, in words
 answer() {
-    start "$1" ${words[@]+"${words[@]}"} >"$written"
+    run_chosen "$1" >"$written"
     cat "$written"
     local word number place
     read -r word number place <"$written"

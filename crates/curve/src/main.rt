@@ -1,13 +1,7 @@
 // The curve program: standard input to standard output. All that it does itself is to move bytes; what they are is `text`'s.
+use front::write_front;
 use text::Written;
 use text::curve_of_text;
-
-// The first `n` bytes go to standard output.
-fn write_front(bytes: &[u8], n: usize) {
-    if n <= bytes.len() {
-        io::write_all(1, &bytes[..n]);
-    }
-}
 
 // The curve of a text, in rooms of the sizes that are needed.
 fn write_curve(input: &[u8]) {

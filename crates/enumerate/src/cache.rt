@@ -1,6 +1,52 @@
-// The cache of document 01, section 1, with the sets and the revisions of document 02, requests 1/13 and 6/13, written down by itself: up to four sets of up to four
-// ways. A set has four places in a row, each with a block's number, or 0 while the way is empty.
+// The cache of document 01, section 1, with the sets, revisions and starts of document 02, requests 1/13, 6/13 and 12/13, written down by itself: up to four sets
+// of up to four ways. A set has four places in a row, each with a block's number, or 0 while the way is empty.
 use crate::numbers::read;
+
+// A block for each way of four, in a set of its own; the low numbers are those of the runs.
+fn blocks_of(sets: u32) -> [u32; 16] {
+    match sets {
+        1 => [1, 2, 3, 4, 0, 0, 0, 0, 0, 0, 0, 0, 0, 0, 0, 0],
+        2 => [2, 4, 6, 8, 1, 3, 5, 7, 0, 0, 0, 0, 0, 0, 0, 0],
+        _ => [4, 8, 12, 16, 1, 5, 9, 13, 2, 6, 10, 14, 3, 7, 11, 15],
+    }
+}
+
+// What a way holds before the first access, where `block` is its block: nothing (`kind` 0), that block (1), a foreign one of the same set (2), or that block in the
+// first way of the set alone (3).
+fn held_before(kind: u32, way: usize, block: u32) -> u32 {
+    if block == 0 {
+        return 0;
+    }
+    if 16 < block {
+        return 0;
+    }
+    match kind {
+        1 => block,
+        2 => block + 100,
+        3 => {
+            if way == 0 {
+                return block;
+            }
+            0
+        }
+        _ => 0,
+    }
+}
+
+// The cache as it is found, `kind` telling how it was used.
+pub(crate) fn found(kind: u32, sets: u32, ways: u64) -> [u32; 16] {
+    let blocks = blocks_of(sets);
+    let mut cache: [u32; 16] = [0; 16];
+    let mut i: usize = 0;
+    while i < 16 {
+        let way = i % 4;
+        if (way as u64) < ways {
+            cache[i] = held_before(kind, way, blocks[i]);
+        }
+        i += 1;
+    }
+    cache
+}
 
 // Where the places of the block's set begin.
 fn base_of(sets: u32, block: u32) -> usize {

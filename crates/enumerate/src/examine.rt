@@ -1,4 +1,5 @@
 // One graph, one state limit: the graph call is made, and its table held to every path's choice sequences.
+use crate::cache::found;
 use crate::cycles::hold_cycles;
 use crate::numbers::TOO_LARGE;
 use crate::numbers::WHOLE;
@@ -21,6 +22,7 @@ use longest::longest_path;
 use rules::Cache;
 use rules::Length;
 use rules::Outcome;
+use rules::Start;
 use rules::Units;
 
 // Whether `block` is one of at most four tracked ones; 0 is no block.
@@ -82,7 +84,57 @@ fn examine_counts(
     cycles
 }
 
-// One path: `accesses` are those of its nodes.
+// One path: `accesses` are those of its nodes. The cache is found as `kind` says.
+fn examine_from(
+    kind: u32,
+    table: &[u64],
+    told: Told,
+    cache: Cache,
+    tracked: &[u32],
+    accesses: &[u32],
+    tight: bool,
+    report: Report,
+) -> Report {
+    let ways = cache.ways as u64;
+    let all = power(ways, accesses.len());
+    let path = Path {
+        accesses: accesses.len() as u64,
+        all,
+        tight,
+    };
+    let mut counts: [u64; 256] = [0; 256];
+    count_each(
+        &mut counts,
+        found(kind, cache.sets, ways),
+        accesses,
+        tracked,
+        cache.sets,
+        ways,
+        cache.revision,
+        all,
+    );
+    examine_counts(table, told, &counts, path, report)
+}
+
+// The same path from an empty cache and from used ones: no more than safe is promised then.
+fn examine_used(
+    table: &[u64],
+    told: Told,
+    cache: Cache,
+    tracked: &[u32],
+    accesses: &[u32],
+    report: Report,
+) -> Report {
+    let mut done = report;
+    let mut kind: u32 = 0;
+    while kind < 4 {
+        done = examine_from(kind, table, told, cache, tracked, accesses, false, done);
+        kind += 1;
+    }
+    done
+}
+
+// The path as the start says: from an empty cache, or from all.
 fn examine_path(
     table: &[u64],
     told: Told,
@@ -95,23 +147,11 @@ fn examine_path(
     if 16 < accesses.len() {
         return report.compared(false);
     }
-    let all = power(cache.ways as u64, accesses.len());
-    let path = Path {
-        accesses: accesses.len() as u64,
-        all,
-        tight,
-    };
-    let mut counts: [u64; 256] = [0; 256];
-    count_each(
-        &mut counts,
-        accesses,
-        tracked,
-        cache.sets,
-        cache.ways as u64,
-        cache.revision,
-        all,
-    );
-    examine_counts(table, told, &counts, path, report)
+    let start = cache.start;
+    match start {
+        Start::Cold => examine_from(0, table, told, cache, tracked, accesses, tight, report),
+        Start::Warm => examine_used(table, told, cache, tracked, accesses, report),
+    }
 }
 
 // The path that is the first `length` accesses of `path`.

@@ -5,6 +5,7 @@ use crate::sweep::first_revision;
 use crate::sweep::one_set;
 use crate::sweep::second_revision;
 use crate::sweep::sweep;
+use crate::sweep::used;
 
 // One graph on one set, with one, two and three ways, and with some blocks untracked: every `stride`-th access list over three blocks.
 fn on_one_set(runs: &[u32], edges: &[u32], length: usize, stride: u64, report: Report) -> Report {
@@ -34,6 +35,14 @@ fn on_second(runs: &[u32], edges: &[u32], length: usize, stride: u64, report: Re
     sweep(four, &[5, 1, 2], 5, runs, edges, length, few, some)
 }
 
+// Used caches, of both revisions.
+fn on_used(runs: &[u32], edges: &[u32], length: usize, stride: u64, report: Report) -> Report {
+    let first = used(2, 2, 1);
+    let second = used(1, 2, 2);
+    let all = sweep(first, &[3, 1, 2], 3, runs, edges, length, stride, report);
+    sweep(second, &[2, 3], 3, runs, edges, length, stride, all)
+}
+
 // And on two and four sets: 1 and 3 belong to one of the two, 1 and 5 to one of the four.
 fn graph(runs: &[u32], edges: &[u32], length: usize, stride: u64, report: Report) -> Report {
     let two = first_revision(2, 2);
@@ -51,7 +60,8 @@ fn graph(runs: &[u32], edges: &[u32], length: usize, stride: u64, report: Report
         times(stride, 11),
         some,
     );
-    on_second(runs, edges, length, stride, sets)
+    let second = on_second(runs, edges, length, stride, sets);
+    on_used(runs, edges, length, stride, second)
 }
 
 // Nodes 1 and 2 between 0 and 3: the two sides of a branch.

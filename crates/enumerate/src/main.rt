@@ -1,5 +1,6 @@
 // The independent second program (document 01, end of section 6). It walks every choice sequence of short runs and small
-// graphs on a little cache of its own, of one, two or four sets, of both revisions, counts them, and holds the tables of the graph call to the counts:
+// graphs on a little cache of its own, of one, two or four sets, of both revisions, empty or used before the first access, counts them, and holds the tables of the
+// graph call to the counts:
 //
 // - the units of a table total 2^48, and it has at most K states;
 // - on a straight run whose blocks are all tracked, where nothing is set aside: the units of each contents and miss count
@@ -9,6 +10,8 @@
 // - the last two again for every core and for cycle budgets in place of misses: a path's exact cycles are held to the units above the
 //   cycle budget, asked with the accesses of the graph's longest path;
 // - the longest path has as many accesses as the longest of all paths.
+//
+// From a used cache only the share of the sequences with more misses, or cycles, is held to the units: that is all that is promised then.
 //
 // It shares no code with the graph call, the longest path and the questions.
 use crate::graphs::all_graphs;

@@ -17,10 +17,18 @@ fn cell_of(mask: u64, misses: u64) -> usize {
     (mask * 16 + misses) as usize
 }
 
-// The cell of one choice sequence: way `draws` % `ways` is drawn at the first access, and so on digit by digit. There is a
+// The cell of one choice sequence, the cache being found so: way `draws` % `ways` is drawn at the first access, and so on digit by digit. There is a
 // draw at every access, hits included.
-fn walk(path: &[u32], tracked: &[u32], sets: u32, ways: u64, revision: u32, draws: u64) -> usize {
-    let mut cache: [u32; 16] = [0; 16];
+fn walk(
+    found: [u32; 16],
+    path: &[u32],
+    tracked: &[u32],
+    sets: u32,
+    ways: u64,
+    revision: u32,
+    draws: u64,
+) -> usize {
+    let mut cache = found;
     let mut misses: u64 = 0;
     let mut left = draws;
     let mut i: usize = 0;
@@ -41,9 +49,10 @@ fn count_in(counts: &mut [u64; 256], cell: usize) {
     }
 }
 
-// Counts each of the `all` choice sequences of a path.
+// Counts each of the `all` choice sequences of a path, the cache being found so.
 pub(crate) fn count_each(
     counts: &mut [u64; 256],
+    found: [u32; 16],
     path: &[u32],
     tracked: &[u32],
     sets: u32,
@@ -53,7 +62,10 @@ pub(crate) fn count_each(
 ) {
     let mut draws: u64 = 0;
     while draws < all {
-        count_in(counts, walk(path, tracked, sets, ways, revision, draws));
+        count_in(
+            counts,
+            walk(found, path, tracked, sets, ways, revision, draws),
+        );
         draws += 1;
     }
 }

@@ -4,6 +4,7 @@ use crate::sweep::first_revision;
 use crate::sweep::one_set;
 use crate::sweep::second_revision;
 use crate::sweep::sweep;
+use crate::sweep::used;
 use rules::Cache;
 
 // Every run of `length` accesses over `blocks` blocks, or every `stride`-th.
@@ -92,8 +93,18 @@ fn filling_runs(report: Report) -> Report {
     runs_of(second_revision(4, 2), &[1, 5, 4, 2], 5, 6, 47, two)
 }
 
+// Used caches, of both revisions.
+fn used_runs(report: Report) -> Report {
+    let one = short_runs(used(1, 2, 1), &[2, 3, 1], 3, 5, report);
+    let two = short_runs(used(1, 2, 2), &[2, 3, 1], 3, 6, one);
+    let three = short_runs(used(1, 3, 2), &[3, 1], 4, 5, two);
+    let sets = short_runs(used(2, 2, 1), &[2, 3], 3, 5, three);
+    let filling = short_runs(used(2, 2, 2), &[2, 3, 1], 3, 6, sets);
+    runs_of(used(4, 2, 2), &[1, 5, 2], 5, 6, 97, filling)
+}
+
 pub(crate) fn all_straight(report: Report) -> Report {
     let tracked = tracked_runs(report);
     let untracked = untracked_runs(tracked);
-    filling_runs(on_four_sets(on_two_sets(long_runs(untracked))))
+    used_runs(filling_runs(on_four_sets(on_two_sets(long_runs(untracked)))))
 }

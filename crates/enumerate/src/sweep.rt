@@ -5,22 +5,35 @@ use crate::numbers::other_digits;
 use crate::numbers::power;
 use crate::report::Report;
 use rules::Cache;
+use rules::Start;
 
-// A cache of the first revision.
+// An empty cache of the first revision.
 pub(crate) fn first_revision(sets: u32, ways: u32) -> Cache {
     Cache {
         sets,
         ways,
         revision: 1,
+        start: Start::Cold,
     }
 }
 
-// A cache of the second revision, which fills empty ways first.
+// An empty cache of the second revision, which fills empty ways first.
 pub(crate) fn second_revision(sets: u32, ways: u32) -> Cache {
     Cache {
         sets,
         ways,
         revision: 2,
+        start: Start::Cold,
+    }
+}
+
+// A used cache.
+pub(crate) fn used(sets: u32, ways: u32, revision: u32) -> Cache {
+    Cache {
+        sets,
+        ways,
+        revision,
+        start: Start::Warm,
     }
 }
 

@@ -227,7 +227,7 @@ node-done c ts K j a n a₁ m b l bs es ws ws₁ ws₂ T short s e g f h q =
 
 -- the cache of an input
 abbrev pub cacheOf : Input → Cache
-cacheOf i = cache (i .sets) (i .ways) (i .revision)
+cacheOf i = cache (i .sets) (i .ways) (i .revision) (i .start)
 
 pub offset-start : (lengths : List ℕ) → 0 ≡ offset lengths 0
 unfolding offset

@@ -1,6 +1,6 @@
 -- What is asked of the working room before a table in it is worked.
 use mathlib.Core.Path.{_≡_}
-use mathlib.Core.Bool.{Bool, true, cond}
+use mathlib.Core.Bool.{Bool, true, cond, _&&_}
 use mathlib.Core.List.{List, _++_}
 use Prim.Native.Nat.{ℕ, _+_, _-_, _≤_, _<_}
 use lib.Dec.{eqb}
@@ -13,6 +13,7 @@ use Rattle.rules.specs.Filling.{evenly}
 use Rattle.rules.specs.Table.{Work}
 use Rattle.rules.specs.Shape.{Every, Table}
 use Rattle.rules.specs.Input.{edgesOf, predecessors}
+use Rattle.rules.specs.Graph.{isCold}
 use Rattle.rules.specs.Refusals.{setCounts}
 use Rattle.words.specs.Tables.{tableOf}
 use Rattle.estimate.specs.Rooms.{tableIn}
@@ -27,7 +28,7 @@ sixteenOf Z n = replicate Z n ++ replicate (16 - length (replicate Z n)) 0
 
 -- the cache is found empty, and fills empty ways first
 abbrev pub startsEmptyOf : Cache → Bool
-startsEmptyOf c = eqb (c .revision) 2
+startsEmptyOf c = eqb (c .revision) 2 && isCold (c .start)
 
 -- how many ways may be filled at the start
 abbrev pub startOf : Cache → Filled

@@ -2,12 +2,14 @@
 use basics::larger;
 use rules::Cache;
 use rules::Filled;
+use rules::Start;
 ghost use mathlib.Core.Path.{_≡_};
-ghost use mathlib.Core.Bool.{cond};
+ghost use mathlib.Core.Bool.{cond, _&&_};
 ghost use Prim.Native.Nat.{_/_, _%_, _^_, _≤_, _<_};
 ghost use lib.Dec.{eqb, ltb};
 ghost use lib.ListN.{take, drop};
 ghost use Rattle.rules.specs.Filling.{bytesOf, wordFrom, largerOf, filledAt, evenly as evenlyOf, fillOne, fullest as fullestOf, sameFilled};
+ghost use Rattle.rules.specs.Graph.{isCold};
 ghost use Rattle.estimate.specs.Working.{startOf, sixteenOf};
 
 // The byte of `word` at place `at`, of eight; the lowest has place 0.
@@ -131,10 +133,13 @@ pub(crate) fn evenly(sets: u32, n: u64) -> Filled
 }
 
 // Whether every way is known to be empty at the start, and stays so until a miss fills it.
-pub(crate) fn starts_empty(revision: u32) -> bool
-    ensures { λ r. ⌜ r ≡ eqb revision 2 ⌝ }
+pub(crate) fn starts_empty(revision: u32, start: Start) -> bool
+    ensures { λ r. ⌜ r ≡ (eqb revision 2 && isCold start) ⌝ }
 {
-    revision == 2
+    match start {
+        Start::Warm => false,
+        Start::Cold => revision == 2,
+    }
 }
 
 // How many ways may be filled before the first access: none, or all.
@@ -142,7 +147,8 @@ pub(crate) fn start_of(cache: Cache) -> Filled
     requires { ⌜ (cache .ways ≤ 16) × (cache .sets ≤ 16) ⌝ }
     ensures { λ r. ⌜ r ≡ startOf cache ⌝ }
 {
-    if starts_empty(cache.revision) {
+    let start = cache.start;
+    if starts_empty(cache.revision, start) {
         return evenly(cache.sets, 0);
     }
     evenly(cache.sets, cache.ways as u64)

@@ -12,6 +12,7 @@ use Rattle.rules.specs.Answers.{numberOf}
 use Rattle.rules.specs.Input.{Input}
 use Rattle.rules.specs.Refusals.{verdict}
 use Rattle.text.specs.Parts.{complete, inputFrom}
+use Rattle.text.specs.Choices.{plain}
 use Rattle.reading.specs.Reading.{wellFormed, numbersIn}
 use Rattle.text.specs.Writing.{refusedLine, headWords}
 use Rattle.text.specs.Printed.{told, ofInput, ofNumbers, ofText}
@@ -32,17 +33,17 @@ module _ (text : Input → List ℕ) (some : (i : Input) → 0 < length (text i)
   told-some Accepted i = some i
   told-some (Refused r) i = refused-some (numberOf r)
 
-  numbers-some : (ns : List ℕ) → 0 < length (ofNumbers text ns)
+  numbers-some : (ns : List ℕ) → 0 < length (ofNumbers text plain ns)
   unfolding ofNumbers ofInput
   numbers-some ns =
-      let i = inputFrom ns in
+      let i = inputFrom plain ns in
       either-some (complete ns) (ofInput text i) (refusedLine (numberOf Text)) (told-some (verdict i) i) (refused-some (numberOf Text))
 
-  text-some : (bytes : List ℕ) → 0 < length (ofText text bytes)
+  text-some : (bytes : List ℕ) → 0 < length (ofText (ofNumbers text plain) bytes)
   unfolding ofText
   text-some bytes =
       let ns = numbersIn bytes in
-      either-some (wellFormed bytes) (ofNumbers text ns) (refusedLine (numberOf Text)) (numbers-some ns) (refused-some (numberOf Text))
+      either-some (wellFormed bytes) (ofNumbers text plain ns) (refusedLine (numberOf Text)) (numbers-some ns) (refused-some (numberOf Text))
 
 curve-some : (i : Input) → 0 < length (curve i)
 unfolding curve headWords

@@ -1,5 +1,6 @@
 -- What a function for C gives: a number, and what stands behind each pointer afterwards. Where the answer is a refusal, what would have taken a value keeps
 -- what stood there.
+use mathlib.Core.Bool.{Bool, true, false}
 use mathlib.Core.List.{List}
 use Prim.Native.Nat.{ℕ}
 use Rattle.rules.specs.declared.Amount.{Amount}
@@ -10,9 +11,13 @@ use Rattle.rules.specs.declared.Length.{Length}
 use Rattle.rules.specs.declared.Length.the-variants.{Accesses, Refused as RefusedLength}
 use Rattle.rules.specs.declared.Outcome.{Outcome}
 use Rattle.rules.specs.declared.Outcome.the-variants.{Finished, Refused as RefusedOutcome}
+use Rattle.rules.specs.declared.Cache.{Cache}
+use Rattle.rules.specs.declared.Start.{Start}
+use Rattle.rules.specs.declared.Start.the-variants.{Cold, Warm}
 use Rattle.rules.specs.declared.Time.{Time}
 use Rattle.rules.specs.declared.Time.the-variants.{Cycles, Refused as RefusedTime}
 use Rattle.rules.specs.Answers.{numberOf}
+use Rattle.rules.specs.Input.{cache}
 use Rattle.rules.specs.Questions.{SpreadAnswer}
 use Rattle.estimate.specs.Call.{After}
 use Rattle.recorder.specs.declared.Reading.{Reading}
@@ -23,6 +28,17 @@ use Rattle.recorder.specs.Calls.{readingSays, ReadLeft, CountLeft}
 use Rattle.text.specs.declared.Written.{Written}
 use Rattle.text.specs.declared.Written.the-variants.{Bytes, NoRoom}
 use Rattle.text.specs.Rooms.{Rooms, NumbersWritten, TextWritten}
+
+-- ---- the cache that a call names
+
+-- how it is found: used, or empty
+abbrev pub startGiven : Bool → Start
+startGiven true = Warm
+startGiven false = Cold
+
+-- Z sets of N ways, revision v, used or empty
+abbrev pub cacheGiven : ℕ → ℕ → ℕ → Bool → Cache
+cacheGiven Z N v warm = cache Z N v (startGiven warm)
 
 -- ---- the graph call: 0, or the refusal's number; how many states and how many units set aside; the two rooms
 

@@ -22,6 +22,7 @@ use rules::Cache;
 use rules::Count;
 use rules::Length;
 use rules::Outcome;
+use rules::Start;
 use rules::State;
 use rules::Time;
 use text::Written;
@@ -32,14 +33,37 @@ use text::cycles_of_text;
 ghost use mathlib.Core.Path.{_≡_};
 ghost use lib.ListN.{take};
 ghost use Rattle.rules.specs.Cycles.{aboveCyclesAnswer, cycleBudgetAnswer};
-ghost use Rattle.rules.specs.Input.{cache, inputOf};
+ghost use Rattle.rules.specs.Input.{inputOf};
 ghost use Rattle.rules.specs.Longest.{longestAnswer};
 ghost use Rattle.rules.specs.Questions.{aboveAnswer, budgetAnswer, spreadAnswer};
 ghost use Rattle.words.specs.Tables.{tableOf};
 ghost use Rattle.estimate.specs.Call.{analysed};
 ghost use Rattle.recorder.specs.Calls.{traceRead, traceListed, traceWritten};
 ghost use Rattle.text.specs.Rooms.{afterNumbers, afterText, afterCyclesOfNumbers, afterCyclesOfText};
-ghost use Rattle.estimate_c.specs.Given.{graphGiven, amountGiven, countGiven, timeGiven, lengthGiven, spreadGiven, readGiven, countedGiven, bytesOf, numbersGiven, textGiven};
+ghost use Rattle.estimate_c.specs.Given.{startGiven, cacheGiven, graphGiven, amountGiven, countGiven, timeGiven, lengthGiven, spreadGiven, readGiven, countedGiven, bytesOf, numbersGiven, textGiven};
+
+// How the cache is found: `warm` says that it was used.
+fn start_named(warm: bool) -> Start
+    ensures { λ r. ⌜ r ≡ startGiven warm ⌝ }
+{
+    if warm {
+        return Start::Warm;
+    }
+    Start::Cold
+}
+
+// The cache that the numbers name.
+fn cache_named(sets: u32, ways: u32, revision: u32, warm: bool) -> Cache
+    ensures { λ r. ⌜ r ≡ cacheGiven sets ways revision warm ⌝ }
+{
+    let start = start_named(warm);
+    Cache {
+        sets,
+        ways,
+        revision,
+        start,
+    }
+}
 
 // The graph call.
 #[no_mangle]
@@ -47,6 +71,7 @@ pub extern "C" fn estimate_graph(
     sets: u32,
     ways: u32,
     revision: u32,
+    warm: bool,
     limit: u32,
     tracked: &[u32],
     runs: &[u32],
@@ -57,14 +82,10 @@ pub extern "C" fn estimate_graph(
     states: &mut usize,
     aside: &mut u64,
 ) -> u64
-    ensures { λ r. ⌜ record { number = r; states = now (states .exit); aside = now (aside .exit); result = now (result .exit); work = now (work .exit) } ≡ graphGiven (analysed (cache sets ways revision) limit (now (tracked .entry)) (now (runs .entry)) (now (accesses .entry)) (now (edges .entry)) (now (result .entry)) (now (work .entry))) (now (states .entry)) (now (aside .entry)) ⌝ }
+    ensures { λ r. ⌜ record { number = r; states = now (states .exit); aside = now (aside .exit); result = now (result .exit); work = now (work .exit) } ≡ graphGiven (analysed (cacheGiven sets ways revision warm) limit (now (tracked .entry)) (now (runs .entry)) (now (accesses .entry)) (now (edges .entry)) (now (result .entry)) (now (work .entry))) (now (states .entry)) (now (aside .entry)) ⌝ }
 {
     match analyse(
-        Cache {
-            sets,
-            ways,
-            revision,
-        },
+        cache_named(sets, ways, revision, warm),
         limit,
         tracked,
         runs,
@@ -161,6 +182,7 @@ pub extern "C" fn estimate_longest_path(
     sets: u32,
     ways: u32,
     revision: u32,
+    warm: bool,
     limit: u32,
     tracked: &[u32],
     runs: &[u32],
@@ -168,14 +190,10 @@ pub extern "C" fn estimate_longest_path(
     edges: &[u32],
     longest: &mut u64,
 ) -> u64
-    ensures { λ r. ⌜ record { number = r; value = now (longest .exit) } ≡ lengthGiven (longestAnswer (inputOf (cache sets ways revision) limit (now (tracked .entry)) (now (runs .entry)) (now (accesses .entry)) (now (edges .entry)))) (now (longest .entry)) ⌝ }
+    ensures { λ r. ⌜ record { number = r; value = now (longest .exit) } ≡ lengthGiven (longestAnswer (inputOf (cacheGiven sets ways revision warm) limit (now (tracked .entry)) (now (runs .entry)) (now (accesses .entry)) (now (edges .entry)))) (now (longest .entry)) ⌝ }
 {
     match longest_path(
-        Cache {
-            sets,
-            ways,
-            revision,
-        },
+        cache_named(sets, ways, revision, warm),
         limit,
         tracked,
         runs,

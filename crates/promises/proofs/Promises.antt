@@ -1,6 +1,6 @@
 -- The promises, together and with all that they assume: an input that is accepted, by the very definition that refuses it (its
 -- outcome says 0). N is its ways in each set, L the accesses of the path, `whole` is 2^48. The machine is of the
--- revision and has the sets that the input names, and starts empty.
+-- revision and has the sets that the input names, and starts empty unless said.
 use mathlib.Core.Path.{_≡_, refl, sym, ap, _∙_}
 use mathlib.Core.Bool.{true, false}
 use mathlib.Core.Logic.{⊎-elim}
@@ -9,14 +9,15 @@ use Prim.Native.Nat.{ℕ, _+_, _*_, _^_, _≤_, _<_}
 use native.Mathlib.Nat.{le-refl, mul-le-mul-right}
 use native.Mathlib.Omega.{arith}
 use lib.ListN.{length}
-use Rattle.machine.specs.Cache.{start}
-use Rattle.machine.specs.Draws.{count}
+use Rattle.machine.specs.Cache.{Cache, start, Built}
+use Rattle.machine.specs.Draws.{countFrom, count}
 use Rattle.rules.specs.Answers.{outcomeSays, amountSays, timeSays}
+use Rattle.rules.specs.declared.Start.the-variants.{Cold as cold}
 use Rattle.rules.specs.Input.{Input, nodes}
 use Rattle.rules.specs.Questions.{isTable, above}
 use Rattle.rules.specs.Cycles.{cores, coreAt, aboveCycles, smallestCycles, aboveCyclesAnswer, cycleBudgetAnswer}
 use Rattle.rules.specs.Longest.{longest}
-use Rattle.rules.specs.Graph.{finished}
+use Rattle.rules.specs.Graph.{startsEmpty, finished}
 use Rattle.rules.specs.Refusals.{outcome}
 use Rattle.rules.specs.Table.{total}
 use Rattle.rules.specs.Units.{whole}
@@ -27,7 +28,7 @@ use Rattle.rules.proofs.Longest.{longest-most, finished-within}
 use Rattle.promises.specs.Paths.{isPath, accessesOf, allTracked}
 use Rattle.promises.specs.Ends.{revisionOf, over, overCycles, endsWith, unitsWith}
 use Rattle.promises.proofs.Longest.{no-longer, longest-straight}
-use Rattle.promises.proofs.Straight.{safe-start, machine-even, straight-high, straight-even, below-whole}
+use Rattle.promises.proofs.Straight.{safe-used-from, safe-start, machine-even, straight-high, straight-even, below-whole}
 use Rattle.promises.proofs.Weights.{oneWhere, one-most, overIs, worth-above, count-over, atIs, worth-with, count-with}
 use Rattle.promises.proofs.Cycles.{cycles-safe, cycles-tight}
 
@@ -40,31 +41,38 @@ pub safe : (i : Input) → outcomeSays (outcome i) .number ≡ 0 → (path : Lis
 unfolding count
 safe i ok = safe-start i (accepted i ok)
 
--- Tight, the second half of point 3. On a straight run with every block tracked the excess is at most set aside × N^L.
-pub tight : (i : Input) → outcomeSays (outcome i) .number ≡ 0 → nodes i ≡ 1 → allTracked (i .tracked) (i .accesses) ≡ true → (B : ℕ)
+-- Safe from a used cache. The same where the input names the first revision or the warm start: the machine may then begin with any
+-- contents, as long as there are as many sets and ways as the input says and no block is in two ways of a set.
+pub safe-used : (i : Input) → outcomeSays (outcome i) .number ≡ 0 → startsEmpty i ≡ false
+    → (c : Cache) → Built (i .sets) (i .ways) c → c .misses ≡ 0 → (path : List ℕ) → isPath i path ≡ true → (B : ℕ)
+    → countFrom (over B) (revisionOf i) (i .ways) c (accessesOf i path) * whole ≤ above B (finished i .table) * i .ways ^ length (accessesOf i path)
+safe-used i ok any c built fresh = safe-used-from i (accepted i ok) c built fresh any
+
+-- Tight, the second half of point 3. On a straight run from the cold start with every block tracked the excess is at most set aside × N^L.
+pub tight : (i : Input) → outcomeSays (outcome i) .number ≡ 0 → i .start ≡ cold → nodes i ≡ 1 → allTracked (i .tracked) (i .accesses) ≡ true → (B : ℕ)
     → above B (finished i .table) * i .ways ^ length (i .accesses)
     ≤ count (over B) (revisionOf i) (i .sets) (i .ways) (i .accesses) * whole + outcomeSays (outcome i) .aside * i .ways ^ length (i .accesses)
 unfolding count
-tight i ok one all B =
+tight i ok o one all B =
     let c = accepted i ok in
     rw (says-aside i ok, count-over (revisionOf i) (i .tracked) B (i .ways) (start (i .sets) (i .ways)) (i .accesses))
     (⊎-elim
     (λ e. rw e (omega (arith, mul-le-mul-right (i .ways ^ length (i .accesses)) (below-whole i ok B))))
-    (λ h. omega (arith, rw (worth-above B (finished i .table)) at h, machine-even i c all (oneWhere (overIs B))))
+    (λ h. omega (arith, rw (worth-above B (finished i .table)) at h, machine-even i c o all (oneWhere (overIs B))))
     (straight-high i c one (oneWhere (overIs B)) (one-most (overIs B))))
 
--- Exact, point 2. On a straight run with every block tracked and nothing set aside, for each contents C and miss
+-- Exact, point 2. On a straight run from the cold start with every block tracked and nothing set aside, for each contents C and miss
 -- count m, over all filled numbers: units × N^L = 2^48 × the number of choice sequences ending there.
-pub exact : (i : Input) → outcomeSays (outcome i) .number ≡ 0 → nodes i ≡ 1 → allTracked (i .tracked) (i .accesses) ≡ true
+pub exact : (i : Input) → outcomeSays (outcome i) .number ≡ 0 → i .start ≡ cold → nodes i ≡ 1 → allTracked (i .tracked) (i .accesses) ≡ true
     → outcomeSays (outcome i) .aside ≡ 0 → (C m : ℕ)
     → unitsWith C m (finished i .table) * i .ways ^ length (i .accesses)
     ≡ whole * count (endsWith (i .tracked) C m) (revisionOf i) (i .sets) (i .ways) (i .accesses)
 unfolding count
-exact i ok one all none C m =
+exact i ok o one all none C m =
     let c = accepted i ok in
     let table = straight-even i c one (oneWhere (atIs C m)) (sym (says-aside i ok) ∙ none) in
     rw (count-with (revisionOf i) (i .tracked) C m (i .ways) (start (i .sets) (i .ways)) (i .accesses), ← worth-with C m (finished i .table))
-    (omega (arith, table, machine-even i c all (oneWhere (atIs C m))))
+    (omega (arith, table, machine-even i c o all (oneWhere (atIs C m))))
 
 -- Whole. Units always total 2^48, and the finished table is a table by section 4, so that the questions accept it.
 pub whole-table : (i : Input) → outcomeSays (outcome i) .number ≡ 0 → (total (finished i .table) ≡ whole) × (isTable (finished i .table) ≡ true)
@@ -84,21 +92,32 @@ safe-cycles i ok L e path p k known =
     cycles-safe (coreAt k) (miss-above-hit k known) (revisionOf i) L (i .ways) (start (i .sets) (i .ways)) refl (accessesOf i path)
     (rw e (no-longer i c path p)) (finished i .table) (finished-whole i ok) (rw e (finished-within i c)) (safe i ok path p)
 
--- Tight in cycles, the second half of point 3. On a straight run with every block tracked the excess is at most set
+-- and from a used cache
+pub safe-cycles-used : (i : Input) → outcomeSays (outcome i) .number ≡ 0 → startsEmpty i ≡ false
+    → (c : Cache) → Built (i .sets) (i .ways) c → c .misses ≡ 0 → (L : ℕ) → L ≡ longest i → (path : List ℕ) → isPath i path ≡ true
+    → (k : ℕ) → k < length cores → (B : ℕ)
+    → countFrom (overCycles (coreAt k) (length (accessesOf i path)) B) (revisionOf i) (i .ways) c (accessesOf i path) * whole
+    ≤ aboveCycles (coreAt k) L B (finished i .table) * i .ways ^ length (accessesOf i path)
+safe-cycles-used i ok any c built fresh L e path p k known =
+    let a = accepted i ok in
+    cycles-safe (coreAt k) (miss-above-hit k known) (revisionOf i) L (i .ways) c fresh (accessesOf i path)
+    (rw e (no-longer i a path p)) (finished i .table) (finished-whole i ok) (rw e (finished-within i a)) (safe-used i ok any c built fresh path p)
+
+-- Tight in cycles, the second half of point 3. On a straight run from the cold start with every block tracked the excess is at most set
 -- aside × N^L.
-pub tight-cycles : (i : Input) → outcomeSays (outcome i) .number ≡ 0 → nodes i ≡ 1 → allTracked (i .tracked) (i .accesses) ≡ true
+pub tight-cycles : (i : Input) → outcomeSays (outcome i) .number ≡ 0 → i .start ≡ cold → nodes i ≡ 1 → allTracked (i .tracked) (i .accesses) ≡ true
     → (L : ℕ) → L ≡ longest i → (k : ℕ) → k < length cores → (B : ℕ)
     → aboveCycles (coreAt k) L B (finished i .table) * i .ways ^ length (i .accesses)
     ≤ count (overCycles (coreAt k) (length (i .accesses)) B) (revisionOf i) (i .sets) (i .ways) (i .accesses) * whole
     + outcomeSays (outcome i) .aside * i .ways ^ length (i .accesses)
 unfolding count
-tight-cycles i ok one all L e k known =
+tight-cycles i ok o one all L e k known =
     let c = accepted i ok in
     let straight = longest-straight i c one in
     rw (e ∙ straight)
     (cycles-tight (coreAt k) (miss-above-hit k known) (revisionOf i) (length (i .accesses)) (i .ways) (start (i .sets) (i .ways)) refl (i .accesses)
     (le-refl (length (i .accesses))) (finished i .table) (finished-whole i ok) (rw (← straight) (finished-within i c)) (outcomeSays (outcome i) .aside)
-    (tight i ok one all))
+    (tight i ok o one all))
 
 -- Asked in cycles. The questions in cycles accept the finished table with its longest path, for every core, and say these very units and
 -- the smallest cycle budget for u of them.

@@ -1,17 +1,19 @@
--- The machine, from the start, along the accesses of an accepted input, and the finished table of a straight run.
+-- The machine, from the start or from a used cache, along the accesses of an accepted input, and the finished table of a straight run.
 use mathlib.Core.Path.{_≡_, refl, sym, ap, ap₂, _∙_}
-use mathlib.Core.Bool.{Bool, true, false, cond, true≢false}
+use mathlib.Core.Bool.{Bool, true, false, cond, true≢false, and-true}
 use mathlib.Core.Logic.{_⊎_, inl, inr}
-use mathlib.Core.List.{List}
-use Prim.Native.Nat.{ℕ, _+_, _*_, _^_, _≤_}
+use mathlib.Core.List.{List, []}
+use Prim.Native.Nat.{ℕ, _+_, _*_, _^_, _≤_, _<_, zero-le}
 use native.Mathlib.Nat.{le-trans, le-of-eq}
+use native.Mathlib.Decide.{decLt}
 use native.Mathlib.Omega.{arith}
 use lib.Dec.{eqb}
-use lib.ListN.{length, length-replicate}
+use lib.ListN.{length, length-replicate, List·getD-eq-default}
+use Rattle.basics.proofs.Bools.{and-right}
 use Rattle.machine.specs.Cache.{empty, Cache, Revision, first, second, start, Built}
 use Rattle.machine.specs.Draws.{countFrom}
 use Rattle.machine.proofs.Draws.{total}
-use Rattle.machine.proofs.Ways.{built-start}
+use Rattle.machine.proofs.Ways.{may-most, built-start}
 use Rattle.rules.specs.Answers.{outcomeSays}
 use Rattle.rules.specs.declared.Last.the-variants.{Unknown as unknown}
 use Rattle.rules.specs.Units.{whole}
@@ -19,7 +21,9 @@ use Rattle.rules.specs.Contents.{places}
 use Rattle.rules.specs.Input.{Input, nodes}
 use Rattle.rules.specs.Table.{begin, Work}
 use Rattle.rules.specs.Run.{run}
-use Rattle.rules.specs.Graph.{atStart, finished}
+use Rattle.rules.specs.Graph.{isCold, startsEmpty, atStart, finished}
+use Rattle.rules.specs.declared.Start.{Start}
+use Rattle.rules.specs.declared.Start.the-variants.{Cold as cold, Warm as warm}
 use Rattle.rules.specs.declared.Filled.{Filled}
 use Rattle.rules.specs.Filling.{filledAt, evenly}
 use Rattle.rules.specs.Questions.{above}
@@ -29,12 +33,13 @@ use Rattle.rules.proofs.Lookup.{once-at}
 use Rattle.rules.proofs.Filling.{Fewer}
 use Rattle.rules.proofs.Table.{Weight, worth}
 use Rattle.rules.proofs.Graph.{start-most}
+use Rattle.rules.proofs.Starts.{used-filled}
 use Rattle.rules.proofs.Refusals.{Checked}
 use Rattle.rules.proofs.Run.{table-begin}
 use Rattle.rules.proofs.Questions.{above-most, finished-whole}
 use Rattle.promises.specs.Paths.{isPath, accessesOf, allTracked}
 use Rattle.promises.specs.Ends.{revisionOf, over}
-use Rattle.promises.proofs.Seen.{contents-start, filledOf, filled-start, none-filled}
+use Rattle.promises.proofs.Seen.{contents-start, filledOf, filled-at, filled-narrow, filled-start, none-filled}
 use Rattle.promises.proofs.Value.{value, Rises, sub-zero, targetsOf}
 use Rattle.promises.proofs.Safe.{seen, machine-below}
 use Rattle.promises.proofs.Exact.{machine-equal}
@@ -65,6 +70,18 @@ module _ (i : Input) (ok : Checked i) where
         machine-below (i .tracked) (once-at (i .tracked) (ok .distinct)) few W v (i .sets) N (ok .some-sets) (ok .few-sets) (ok .few-ways) rises p c 0 0
         (atStart i) unknown built (sub-zero _) fewer (λ b e. absurd (true≢false (sym e))) (le-of-eq fresh)
 
+    -- where the rules say that all may be filled, that is any
+    machine-used : startsEmpty i ≡ false → (W : Weight) → Rises N (i .sets) (i .tracked) W → (p : List ℕ)
+        → total (seen v (i .tracked) W) v N c p ≤ ahead W p
+    machine-used used = machine-from (λ j. all j (decLt j (i .sets)))
+      where
+        all : (j : ℕ) → Dec (j < i .sets) → filledAt (filledOf v c) j ≤ filledAt (atStart i) j
+        all j (yes l) =
+            rw (used-filled i (ok .few-ways) (ok .few-sets) used j l) (filled-narrow v (i .sets) N (ok .few-ways) (ok .some-sets) (ok .few-sets) c built j)
+        all j (no l) =
+            rw (filled-at v (i .sets) N (ok .few-ways) (ok .some-sets) (ok .few-sets) c built j, List·getD-eq-default (c .sets) [] {n = j} (omega (arith, built .count)))
+            (le-trans (may-most v []) zero-le)
+
   -- at the start in the second revision no way is filled, in the first any may be
   start-filled : filledOf v (start (i .sets) N) ≡ evenly (i .sets) (cond (eqb (i .revision) 2) 0 N)
   start-filled = go (eqb (i .revision) 2)
@@ -73,20 +90,33 @@ module _ (i : Input) (ok : Checked i) where
       go true = filled-start second (i .sets) N ∙ ap (evenly (i .sets)) (none-filled N)
       go false = filled-start first (i .sets) N ∙ ap (evenly (i .sets)) (length-replicate N empty)
 
-  -- which the rules say too
-  as-ruled : filledOf v (start (i .sets) N) ≡ atStart i
+  -- which the rules say too, where it starts cold
+  cold-filled : i .start ≡ cold → filledOf v (start (i .sets) N) ≡ atStart i
   unfolding atStart
-  as-ruled = start-filled
+  cold-filled e = start-filled ∙ rw e (ap (λ (b : Bool). evenly (i .sets) (cond b 0 N)) (sym (and-true (eqb (i .revision) 2))))
 
+  -- from the start, whichever start is named
   machine-start : (W : Weight) → Rises N (i .sets) (i .tracked) W → (p : List ℕ) → total (seen v (i .tracked) W) v N (start (i .sets) N) p ≤ ahead W p
-  machine-start = machine-from (start (i .sets) N) (built-start (i .sets) N) refl (λ j. le-of-eq (ap (λ (F : Filled). filledAt F j) as-ruled))
+  machine-start = go (startsEmpty i) refl
+    where
+      built : Built (i .sets) N (start (i .sets) N)
+      built = built-start (i .sets) N
 
-  pub machine-even : allTracked (i .tracked) (i .accesses) ≡ true → (W : Weight)
+      go : (b : Bool) → startsEmpty i ≡ b → (W : Weight) → Rises N (i .sets) (i .tracked) W → (p : List ℕ)
+          → total (seen v (i .tracked) W) v N (start (i .sets) N) p ≤ ahead W p
+      go true e = machine-from (start (i .sets) N) built refl (λ j. le-of-eq (ap (λ (F : Filled). filledAt F j) (cold-filled (starts-cold (i .start) (and-right (eqb (i .revision) 2) _ e)))))
+        where
+          starts-cold : (o : Start) → isCold o ≡ true → o ≡ cold
+          starts-cold cold h = refl
+          starts-cold warm h = absurd (true≢false (sym h))
+      go false e = machine-used (start (i .sets) N) built refl e
+
+  pub machine-even : i .start ≡ cold → allTracked (i .tracked) (i .accesses) ≡ true → (W : Weight)
       → total (seen v (i .tracked) W) v N (start (i .sets) N) (i .accesses) ≡ ahead W (i .accesses)
-  machine-even all W =
+  machine-even o all W =
       machine-equal (i .tracked) (once-at (i .tracked) (ok .distinct)) few (i .sets) N (ok .some-sets) (ok .few-sets) (ok .few-ways) W v (i .accesses) (start (i .sets) N) unknown (built-start (i .sets) N) all
       ∙ ap₂ (λ (C : ℕ) (F : Filled). value W N (targetsOf (i .sets) (i .tracked) unknown (i .accesses)) C 0 F)
-      (contents-start (i .tracked) (i .sets) N) as-ruled
+      (contents-start (i .tracked) (i .sets) N) (cold-filled o)
 
   -- ---- so along every path
 
@@ -106,6 +136,10 @@ module _ (i : Input) (ok : Checked i) where
   pub safe-start : (path : List ℕ) → isPath i path ≡ true → (B : ℕ)
       → countFrom (over B) v N (start (i .sets) N) (accessesOf i path) * whole ≤ above B (finished i .table) * N ^ length (accessesOf i path)
   safe-start = safe-from (start (i .sets) N) machine-start
+
+  pub safe-used-from : (c : Cache) → Built (i .sets) N c → c .misses ≡ 0 → startsEmpty i ≡ false → (path : List ℕ) → isPath i path ≡ true → (B : ℕ)
+      → countFrom (over B) v N c (accessesOf i path) * whole ≤ above B (finished i .table) * N ^ length (accessesOf i path)
+  safe-used-from c built fresh used = safe-from c (machine-used c built fresh used)
 
   -- ---- a straight run
 

@@ -21,6 +21,8 @@ pub mod Run
 pub mod Graph
 -- The first revision among them
 pub mod Revisions
+-- What is known before the first access
+pub mod Starts
 -- The rooms of a call
 pub mod Rooms
 -- The longest path

@@ -1,11 +1,11 @@
--- A graph: document 01, section 3; document 02, requests 3/13 and 6/13. Each node is worked once, in order, from the joined tables of its predecessors.
-use mathlib.Core.Bool.{Bool, cond}
+-- A graph: document 01, section 3; document 02, requests 3/13, 6/13 and 12/13. Each node is worked once, in order, from the joined tables of its predecessors.
+use mathlib.Core.Bool.{Bool, true, false, cond, _&&_}
 use mathlib.Core.List.{List, [], _∷_, _++_}
 use Prim.Native.Nat.{ℕ, zero, suc, _-_}
 use lib.Dec.{eqb}
 use lib.ListN.{getD}
 use Rattle.rules.specs.Contents.{Last, unknown, agreed, lastAfter}
-use Rattle.rules.specs.Input.{Input, nodes, runOf, edgesOf, predecessors}
+use Rattle.rules.specs.Input.{Start, cold, warm, Input, nodes, runOf, edgesOf, predecessors}
 use Rattle.rules.specs.Filling.{Filled, evenly}
 use Rattle.rules.specs.Table.{State, begin, Work}
 use Rattle.rules.specs.Fold.{folded}
@@ -26,9 +26,13 @@ unfoldable pub joinAll : ℕ → Worked → List ℕ → Work → Work
 joinAll K d [] w = w
 joinAll K d (p ∷ ps) w = joinAll K d ps (folded K (record { table = join (w .table) (tableAt d p); aside = w .aside }))
 
--- whether every way is known to be empty at the start, and stays so until a miss fills it: in the second revision
+abbrev pub isCold : Start → Bool
+isCold cold = true
+isCold warm = false
+
+-- whether every way is known to be empty at the start, and stays so until a miss fills it: in the second revision, started cold
 abbrev pub startsEmpty : Input → Bool
-startsEmpty i = eqb (i .revision) 2
+startsEmpty i = eqb (i .revision) 2 && isCold (i .start)
 
 -- how many ways may be filled at the start: none, or all, since any way may hold a block or be drawn
 unfoldable pub atStart : Input → Filled

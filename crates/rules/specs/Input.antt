@@ -5,6 +5,8 @@ use Prim.Native.Nat.{ℕ}
 use lib.Dec.{eqb}
 use lib.ListN.{length, getD, take, drop}
 use Rattle.basics.specs.Sums.{sumOver}
+pub use Rattle.rules.specs.declared.Start.{Start}
+pub use Rattle.rules.specs.declared.Start.the-variants.{Cold as cold, Warm as warm}
 use Rattle.rules.specs.declared.Cache.{Cache}
 
 -- what a graph call is handed; of the two rooms, how many states they have room for
@@ -12,6 +14,7 @@ pub record Input : Type 0 where
   pub sets : ℕ
   pub ways : ℕ
   pub revision : ℕ
+  pub start : Start
   pub limit : ℕ
   pub tracked : List ℕ
   pub lengths : List ℕ
@@ -20,9 +23,9 @@ pub record Input : Type 0 where
   pub resultRoom : ℕ
   pub workingRoom : ℕ
 
--- a cache of Z sets of N ways, of revision v
-abbrev pub cache : ℕ → ℕ → ℕ → Cache
-cache Z N v = record { sets = Z; ways = N; revision = v }
+-- a cache of Z sets of N ways, of revision v, found as o says
+abbrev pub cache : ℕ → ℕ → ℕ → Start → Cache
+cache Z N v o = record { sets = Z; ways = N; revision = v; start = o }
 
 -- the cache c, at most K states, the tracked blocks ts, the run lengths ns, the accesses bs, the edges es, rooms of r and w states
 abbrev pub inputIn : Cache → ℕ → List ℕ → List ℕ → List ℕ → List ℕ → ℕ → ℕ → Input
@@ -31,6 +34,7 @@ inputIn c K ts ns bs es r w =
       sets = c .sets;
       ways = c .ways;
       revision = c .revision;
+      start = c .start;
       limit = K;
       tracked = ts;
       lengths = ns;

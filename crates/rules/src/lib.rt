@@ -76,11 +76,12 @@ pub enum Place {
     Untracked,
 }
 
-// The cache: how many sets it has, how many ways a set has, and the core's revision.
+// The cache: how many sets it has, how many ways a set has, the core's revision, and how it is found.
 pub struct Cache {
     pub sets: u32,
     pub ways: u32,
     pub revision: u32,
+    pub start: Start,
 }
 
 // The block accessed directly before, if it is known.
@@ -96,6 +97,12 @@ pub struct Target {
     pub again: bool,
     pub set: u32,
     pub mates: u64,
+}
+
+// How the cache is found before the first access: empty, or used, so that any way may hold any block.
+pub enum Start {
+    Cold,
+    Warm,
 }
 
 // Whether one with the numbers `a` and `b` stands before one with `c` and `d`: by the first, and where that is the same by the second.

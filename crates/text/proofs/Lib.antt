@@ -12,6 +12,8 @@ pub mod CoreLines
 pub mod Lines
 -- What is printed for a list of numbers or a text
 pub mod Printed
+-- What is printed for numbers that begin with a choice
+pub mod Choices
 -- What a call leaves in its rooms
 pub mod Rooms
 -- What is said of a trace

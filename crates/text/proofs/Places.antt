@@ -12,6 +12,7 @@ use lib.Dec.{eqb, leb, ltb}
 use lib.ListN.{length, getD, take, drop, length-drop, drop-of-length-le}
 use lib.Seq.{drop-cons, drop-drop}
 use Rattle.rules.specs.Input.{Input, cache, inputOf}
+use Rattle.text.specs.declared.working.Choice.{Choice}
 use Rattle.text.specs.Parts.{Part, counted, trackedPart, runsPart, accessesPart, edgesPart, complete, inputFrom}
 use Rattle.text.specs.Places.{endOf, Ends}
 
@@ -197,9 +198,9 @@ module _ (ns : List ℕ) where
 -- ---- with the ends by name
 
 -- what the numbers mean, with the parts ending at a, b, c and d
-abbrev pub between : List ℕ → ℕ → ℕ → ℕ → ℕ → Input
-between ns a b c d =
-    inputOf (cache 1 (getD ns 0 0) 1) (getD ns 1 0) (take (a - 3) (drop 3 ns)) (take (b - (a + 1)) (drop (a + 1) ns)) (take (c - (b + 1)) (drop (b + 1) ns)) (take (d - (c + 1)) (drop (c + 1) ns))
+abbrev pub between : Choice → List ℕ → ℕ → ℕ → ℕ → ℕ → Input
+between ch ns a b c d =
+    inputOf (cache (ch .sets) (getD ns 0 0) (ch .revision) (ch .start)) (getD ns 1 0) (take (a - 3) (drop 3 ns)) (take (b - (a + 1)) (drop (a + 1) ns)) (take (c - (b + 1)) (drop (b + 1) ns)) (take (d - (c + 1)) (drop (c + 1) ns))
 
 module _ (ns : List ℕ) (a b c : ℕ) (ends : Ends ns a b c) where
   is₁ : a ≡ e₁ ns
@@ -217,15 +218,15 @@ module _ (ns : List ℕ) (a b c : ℕ) (ends : Ends ns a b c) where
   pub is-complete : complete ns ≡ true
   is-complete = complete-ends ns is₄
 
-  pub input-is : inputFrom ns ≡ between ns a b c (length ns)
+  pub input-is : (ch : Choice) → inputFrom ch ns ≡ between ch ns a b c (length ns)
   unfolding inputFrom
-  input-is =
+  input-is ch =
       let h₄ : e₄ ns ≤ length ns = omega (arith, is₄) in
       let h₃ = within₃ ns h₄ in
       let h₂ = within₂ ns h₄ in
       let h₁ = within₁ ns h₄ in
-      (λ i. inputOf (cache 1 (getD ns 0 0) 1) (getD ns 1 0) (tracked-is ns h₁ i .numbers) (runs-is ns h₁ h₂ i .numbers) (accesses-is ns h₁ h₂ h₃ i .numbers) (edges-is ns h₁ h₂ h₃ h₄ i .numbers))
-      ∙ (λ i. between ns (sym is₁ i) (sym is₂ i) (sym is₃ i) (is₄ i))
+      (λ i. inputOf (cache (ch .sets) (getD ns 0 0) (ch .revision) (ch .start)) (getD ns 1 0) (tracked-is ns h₁ i .numbers) (runs-is ns h₁ h₂ i .numbers) (accesses-is ns h₁ h₂ h₃ i .numbers) (edges-is ns h₁ h₂ h₃ h₄ i .numbers))
+      ∙ (λ i. between ch ns (sym is₁ i) (sym is₂ i) (sym is₃ i) (is₄ i))
 
   -- they stand in order
   pub ends-in-order : (3 ≤ a) × (a < b) × (b < c) × (c < length ns)

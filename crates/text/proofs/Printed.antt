@@ -1,7 +1,7 @@
 -- What is printed, case by case: for a list of numbers, which is not complete, refused by the graph call, or accepted; and for a text, malformed or
 -- read.
 use mathlib.Core.Path.{_≡_, refl, sym, ap, ap₂, _∙_}
-use mathlib.Core.Bool.{true, false, _&&_}
+use mathlib.Core.Bool.{Bool, true, false, _&&_}
 use mathlib.Core.List.{List, [], _++_}
 use Prim.Native.Nat.{ℕ, _≤_}
 use native.Mathlib.Nat.{le-trans}
@@ -36,12 +36,13 @@ use Rattle.reading.specs.declared.Read.the-variants.{Numbers, Nothing}
 use Rattle.reading.specs.Reading.{valueFrom, wordsFrom, allNumbers, wellFormed, numbersIn}
 use Rattle.reading.specs.Call.{afterReading}
 use Rattle.reading.proofs.Calls.{malformed, well-formed, how-many, numbers-there}
+use Rattle.text.specs.declared.working.Choice.{Choice}
 use Rattle.text.specs.Parts.{complete, inputFrom}
 use Rattle.text.specs.Places.{Ends}
 use Rattle.text.specs.Writing.{refusedLine, headLine, linesBelow, curveLines}
 use Rattle.text.specs.Printed.{told, accepts, ofInput, ofNumbers, ofText, numbersWorked, textWorked}
-use Rattle.text.specs.Curve.{curve, curveOfNumbers}
-use Rattle.text.specs.Cycles.{longestLine, coreLines, inCycles, cyclesOfNumbers}
+use Rattle.text.specs.Curve.{curve}
+use Rattle.text.specs.Cycles.{longestLine, coreLines, inCycles}
 use Rattle.text.specs.Working.{Called, Finishes}
 use Rattle.text.proofs.Places.{between, input-is}
 
@@ -62,13 +63,13 @@ module _ (i : Input) where
 
 -- ---- the longest path of an accepted input
 
-module _ (ns : List ℕ) (a b c : ℕ) (ends : Ends ns a b c) (accepted : verdict (inputFrom ns) ≡ Accepted) (r : Length)
-    (is : r ≡ longestAnswer (between ns a b c (length ns))) where
-  answers-longest : r ≡ Accesses (longest (inputFrom ns))
+module _ (ch : Choice) (ns : List ℕ) (a b c : ℕ) (ends : Ends ns a b c) (accepted : verdict (inputFrom ch ns) ≡ Accepted) (r : Length)
+    (is : r ≡ longestAnswer (between ch ns a b c (length ns))) where
+  answers-longest : r ≡ Accesses (longest (inputFrom ch ns))
   unfolding longestAnswer
-  answers-longest = is ∙ ap longestAnswer (sym (input-is ns a b c ends)) ∙ ap (λ (v : Verdict). lengthOr v (inputFrom ns)) accepted
+  answers-longest = is ∙ ap longestAnswer (sym (input-is ns a b c ends ch)) ∙ ap (λ (v : Verdict). lengthOr v (inputFrom ch ns)) accepted
 
-  pub longest-told : (n : ℕ) → r ≡ Accesses n → n ≡ longest (inputFrom ns)
+  pub longest-told : (n : ℕ) → r ≡ Accesses n → n ≡ longest (inputFrom ch ns)
   longest-told n e = ap (λ (q : Length). lengthSays q .value) (sym e ∙ answers-longest)
 
   pub longest-not-refused : (why : Refusal) → r ≡ RefusedLength why → ⊥
@@ -76,29 +77,29 @@ module _ (ns : List ℕ) (a b c : ℕ) (ends : Ends ns a b c) (accepted : verdic
 
 -- ---- for a list of numbers: what is printed, and whether it is worked
 
-module _ (ns : List ℕ) (not : complete ns ≡ false) where
-  pub printed-incomplete : (text : Input → List ℕ) → refusedLine 9 ≡ ofNumbers text ns
+module _ (ch : Choice) (ns : List ℕ) (not : complete ns ≡ false) where
+  pub printed-incomplete : (text : Input → List ℕ) → refusedLine 9 ≡ ofNumbers text ch ns
   unfolding ofNumbers
   printed-incomplete text = rw not
 
-  pub incomplete-unworked : numbersWorked ns ≡ false
+  pub incomplete-unworked : numbersWorked ch ns ≡ false
   unfolding numbersWorked
   incomplete-unworked = rw not
 
-module _ (ns : List ℕ) (ok : complete ns ≡ true) (r : Outcome) (rs ws result work : List ℕ) (called : Called (inputFrom ns) r rs ws result work) where
+module _ (ch : Choice) (ns : List ℕ) (ok : complete ns ≡ true) (r : Outcome) (rs ws result work : List ℕ) (called : Called (inputFrom ch ns) r rs ws result work) where
   abbrev i : Input
-  i = inputFrom ns
+  i = inputFrom ch ns
 
-  printed-told : (text : Input → List ℕ) → told (verdict i) (text i) ≡ ofNumbers text ns
+  printed-told : (text : Input → List ℕ) → told (verdict i) (text i) ≡ ofNumbers text ch ns
   unfolding ofNumbers ofInput
   printed-told text = rw ok
 
-  pub printed-refused : (text : Input → List ℕ) (why : Refusal) (n : ℕ) → n ≡ numberOf why → r ≡ RefusedOutcome why → refusedLine n ≡ ofNumbers text ns
+  pub printed-refused : (text : Input → List ℕ) (why : Refusal) (n : ℕ) → n ≡ numberOf why → r ≡ RefusedOutcome why → refusedLine n ≡ ofNumbers text ch ns
   unfolding outcome
   printed-refused text why n e f =
       ap refusedLine e ∙ told-refused i (text i) why (verdict i) (sym (called .answer) ∙ f) ∙ printed-told text
 
-  pub refused-unworked : (why : Refusal) → r ≡ RefusedOutcome why → numbersWorked ns ≡ false
+  pub refused-unworked : (why : Refusal) → r ≡ RefusedOutcome why → numbersWorked ch ns ≡ false
   unfolding numbersWorked outcome
   refused-unworked why f = rw ok (refused-unaccepted i why (verdict i) (sym (called .answer) ∙ f))
 
@@ -117,21 +118,21 @@ module _ (ns : List ℕ) (ok : complete ns ≡ true) (r : Outcome) (rs ws result
 
     -- of the numbers that are said and the table that stands there
     printed-accepted : (text : Input → List ℕ) (lines : ℕ → ℕ → List State → List ℕ) → lines (length (finished i .table)) (finished i .aside) (finished i .table) ≡ text i
-        → lines states (aside .0) (take states (tableOf result)) ≡ ofNumbers text ns
+        → lines states (aside .0) (take states (tableOf result)) ≡ ofNumbers text ch ns
     printed-accepted text lines e =
         ap₂ (λ (q : Outcome) (T : List State). lines (outcomeSays q .states) (outcomeSays q .aside) T) says-finished table-is
         ∙ e
         ∙ sym (ap (λ (v : Verdict). told v (text i)) is-accepted)
         ∙ printed-told text
 
-    pub finished-worked : numbersWorked ns ≡ true
+    pub finished-worked : numbersWorked ch ns ≡ true
     unfolding numbersWorked
     finished-worked = rw ok (ap accepts is-accepted)
 
     pub finished-cleared : work ≡ replicate (length ws) 0
     finished-cleared = called .worked (ap (λ (q : Outcome). outcomeSays q .number) f)
 
-    pub left-finished : Finishes ns result states aside
+    pub left-finished : Finishes ch ns result states aside
     unfolding curve inCycles
     left-finished =
         let all = checked i (sym is-accepted) in
@@ -148,13 +149,13 @@ module _ (ns : List ℕ) (ok : complete ns ≡ true) (r : Outcome) (rs ws result
 -- ---- for a text
 
 module _ (text room : List ℕ) (long : 16384 ≤ length room) (r : Read) (room′ : List ℕ) (left : record { answer = r; room = room′ } ≡ afterReading text room) where
-  pub text-malformed : (of : Input → List ℕ) → r ≡ Nothing → refusedLine 9 ≡ ofText of text
+  pub text-malformed : (of : List ℕ → List ℕ) → r ≡ Nothing → refusedLine 9 ≡ ofText of text
   unfolding ofText
   text-malformed of e = rw (malformed text room long r room′ left e)
 
-  pub malformed-unworked : r ≡ Nothing → textWorked text ≡ false
+  pub malformed-unworked : (worked : List ℕ → Bool) → r ≡ Nothing → textWorked worked text ≡ false
   unfolding textWorked
-  malformed-unworked e = rw (malformed text room long r room′ left e)
+  malformed-unworked worked e = rw (malformed text room long r room′ left e)
 
   module _ (n : ℕ) (e : r ≡ Numbers n) where
     -- as many as there are words, 16,384 at most
@@ -172,10 +173,10 @@ module _ (text room : List ℕ) (long : 16384 ≤ length room) (r : Read) (room�
     pub numbers-long : n ≡ length (take n room′)
     numbers-long = how-many text room long r room′ left n e ∙ sym (ap length (numbers-there text room long r room′ left n e))
 
-    pub text-read : (of : Input → List ℕ) → ofNumbers of (take n room′) ≡ ofText of text
+    pub text-read : (of : List ℕ → List ℕ) → of (take n room′) ≡ ofText of text
     unfolding ofText
-    text-read of = rw (well-formed text room long r room′ left n e) (ap (ofNumbers of) (numbers-there text room long r room′ left n e))
+    text-read of = rw (well-formed text room long r room′ left n e) (ap of (numbers-there text room long r room′ left n e))
 
-    pub read-worked : numbersWorked (take n room′) ≡ textWorked text
+    pub read-worked : (worked : List ℕ → Bool) → worked (take n room′) ≡ textWorked worked text
     unfolding textWorked
-    read-worked = rw (well-formed text room long r room′ left n e) (ap numbersWorked (numbers-there text room long r room′ left n e))
+    read-worked worked = rw (well-formed text room long r room′ left n e) (ap worked (numbers-there text room long r room′ left n e))

@@ -6,6 +6,7 @@ use Rattle.rules.specs.Input.{Input}
 use Rattle.rules.specs.Graph.{finished}
 use Rattle.text.specs.Writing.{headLine, curveLines}
 use Rattle.text.specs.Printed.{ofNumbers, ofText}
+use Rattle.text.specs.Choices.{plain, ofChosen}
 
 -- of an accepted input
 unfoldable pub curve : Input → List ℕ
@@ -13,8 +14,12 @@ curve i = let w = finished i in headLine (length (w .table)) (w .aside) ++ curve
 
 -- of a list of numbers in the curve's order, or its refusal
 abbrev pub curveOfNumbers : List ℕ → List ℕ
-curveOfNumbers = ofNumbers curve
+curveOfNumbers = ofNumbers curve plain
 
 -- of a text, or its refusal
 abbrev pub curveOfText : List ℕ → List ℕ
-curveOfText = ofText curve
+curveOfText = ofText curveOfNumbers
+
+-- of a text whose numbers begin with a choice, or its refusal
+abbrev pub curveOfChosenText : List ℕ → List ℕ
+curveOfChosenText = ofText (ofChosen curve)

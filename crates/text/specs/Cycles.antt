@@ -11,6 +11,7 @@ use Rattle.rules.specs.Cycles.{cores, coreAt, cyclesOf, aboveCycles}
 use Rattle.rules.specs.Longest.{longest}
 use Rattle.text.specs.Writing.{decimal, headWords, countLine, linesBelow}
 use Rattle.text.specs.Printed.{ofNumbers, ofText}
+use Rattle.text.specs.Choices.{plain, ofChosen}
 
 -- " longest "
 abbrev pub longestWord : List ℕ
@@ -53,8 +54,12 @@ inCycles i =
 
 -- of a list of numbers in the curve's order, or its refusal
 abbrev pub cyclesOfNumbers : List ℕ → List ℕ
-cyclesOfNumbers = ofNumbers inCycles
+cyclesOfNumbers = ofNumbers inCycles plain
 
 -- of a text, or its refusal
 abbrev pub cyclesOfText : List ℕ → List ℕ
-cyclesOfText = ofText inCycles
+cyclesOfText = ofText cyclesOfNumbers
+
+-- of a text whose numbers begin with a choice, or its refusal
+abbrev pub cyclesOfChosenText : List ℕ → List ℕ
+cyclesOfChosenText = ofText (ofChosen inCycles)

@@ -10,6 +10,8 @@ pub mod Put
 pub mod Numbers
 -- What is printed, or refused
 pub mod Printed
+-- which cache it is beside its ways
+pub mod Choices
 -- The curve's text
 pub mod Curve
 -- The curves in cycles

@@ -5,6 +5,7 @@ use Prim.Native.Nat.{ℕ, _*_}
 use lib.Dec.{eqb, leb}
 use lib.ListN.{length, getD, take, drop}
 use Rattle.rules.specs.Input.{Input, cache, inputOf}
+use Rattle.text.specs.declared.working.Choice.{Choice}
 
 -- some numbers from the front of a list: whether there were enough, they, and what is left
 pub record Part : Type 0 where
@@ -39,7 +40,7 @@ complete ns =
     leb 2 (length ns) && trackedPart ns .enough && runsPart ns .enough && accessesPart ns .enough && edgesPart ns .enough
     && eqb (length (edgesPart ns .rest)) 0
 
--- what a graph call is handed; the cache has one set and is of the first revision
-unfoldable pub inputFrom : List ℕ → Input
-inputFrom ns =
-    inputOf (cache 1 (getD ns 0 0) 1) (getD ns 1 0) (trackedPart ns .numbers) (runsPart ns .numbers) (accessesPart ns .numbers) (edgesPart ns .numbers)
+-- what a graph call is handed; the cache is as chosen beside its ways
+unfoldable pub inputFrom : Choice → List ℕ → Input
+inputFrom ch ns =
+    inputOf (cache (ch .sets) (getD ns 0 0) (ch .revision) (ch .start)) (getD ns 1 0) (trackedPart ns .numbers) (runsPart ns .numbers) (accessesPart ns .numbers) (edgesPart ns .numbers)

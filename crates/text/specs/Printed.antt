@@ -10,6 +10,7 @@ use Rattle.rules.specs.Answers.{numberOf}
 use Rattle.rules.specs.Input.{Input}
 use Rattle.rules.specs.Refusals.{verdict}
 use Rattle.reading.specs.Reading.{wellFormed, numbersIn}
+use Rattle.text.specs.declared.working.Choice.{Choice}
 use Rattle.text.specs.Parts.{complete, inputFrom}
 use Rattle.text.specs.Writing.{refusedLine}
 
@@ -22,13 +23,13 @@ told (Refused r) text = refusedLine (numberOf r)
 unfoldable pub ofInput : (Input → List ℕ) → Input → List ℕ
 ofInput text i = told (verdict i) (text i)
 
--- for a list of numbers in the curve's order
-unfoldable pub ofNumbers : (Input → List ℕ) → List ℕ → List ℕ
-ofNumbers text ns = cond (complete ns) (ofInput text (inputFrom ns)) (refusedLine (numberOf Text))
+-- for a list of numbers in the curve's order, where the cache is as chosen beside its ways
+unfoldable pub ofNumbers : (Input → List ℕ) → Choice → List ℕ → List ℕ
+ofNumbers text ch ns = cond (complete ns) (ofInput text (inputFrom ch ns)) (refusedLine (numberOf Text))
 
--- for a text
-unfoldable pub ofText : (Input → List ℕ) → List ℕ → List ℕ
-ofText text bytes = cond (wellFormed bytes) (ofNumbers text (numbersIn bytes)) (refusedLine (numberOf Text))
+-- for a text, `of` being what is printed for its numbers
+unfoldable pub ofText : (List ℕ → List ℕ) → List ℕ → List ℕ
+ofText of bytes = cond (wellFormed bytes) (of (numbersIn bytes)) (refusedLine (numberOf Text))
 
 -- ---- what is worked: everything else is refused
 
@@ -38,9 +39,9 @@ accepts Accepted = true
 accepts (Refused r) = false
 
 -- whether a list of numbers is worked: none is missing or left over, and the graph call accepts what they mean
-unfoldable pub numbersWorked : List ℕ → Bool
-numbersWorked ns = complete ns && accepts (verdict (inputFrom ns))
+unfoldable pub numbersWorked : Choice → List ℕ → Bool
+numbersWorked ch ns = complete ns && accepts (verdict (inputFrom ch ns))
 
--- whether a text is worked
-unfoldable pub textWorked : List ℕ → Bool
-textWorked bytes = wellFormed bytes && numbersWorked (numbersIn bytes)
+-- whether a text is worked, `worked` being whether its numbers are
+unfoldable pub textWorked : (List ℕ → Bool) → List ℕ → Bool
+textWorked worked bytes = wellFormed bytes && worked (numbersIn bytes)

@@ -7,8 +7,9 @@ use lib.ListN.{length, drop, replicate}
 use Rattle.text.specs.declared.Written.{Written}
 use Rattle.text.specs.declared.Written.the-variants.{Bytes, NoRoom}
 use Rattle.text.specs.Printed.{numbersWorked, textWorked}
-use Rattle.text.specs.Curve.{curveOfNumbers, curveOfText}
-use Rattle.text.specs.Cycles.{cyclesOfNumbers, cyclesOfText}
+use Rattle.text.specs.Choices.{plain, chosenWorked}
+use Rattle.text.specs.Curve.{curveOfNumbers, curveOfText, curveOfChosenText}
+use Rattle.text.specs.Cycles.{cyclesOfNumbers, cyclesOfText, cyclesOfChosenText}
 
 -- the rooms that are worked in, and the room for the text
 pub record Rooms : Type 0 where
@@ -60,11 +61,11 @@ written false worked text r = record { answer = NoRoom; rooms = r }
 
 -- after the curve
 unfoldable pub afterNumbers : List ℕ → Rooms → NumbersWritten
-afterNumbers ns r = written (enough curveBytes r) (numbersWorked ns) (curveOfNumbers ns) r
+afterNumbers ns r = written (enough curveBytes r) (numbersWorked plain ns) (curveOfNumbers ns) r
 
 -- after the curves in cycles
 unfoldable pub afterCyclesOfNumbers : List ℕ → Rooms → NumbersWritten
-afterCyclesOfNumbers ns r = written (enough cyclesBytes r) (numbersWorked ns) (cyclesOfNumbers ns) r
+afterCyclesOfNumbers ns r = written (enough cyclesBytes r) (numbersWorked plain ns) (cyclesOfNumbers ns) r
 
 -- ---- a text, which needs room for its numbers too
 
@@ -83,8 +84,16 @@ textWritten ok worked text numbers r =
 
 -- after the curve
 unfoldable pub afterText : List ℕ → List ℕ → Rooms → TextWritten
-afterText text numbers r = textWritten (enough curveBytes r) (textWorked text) (curveOfText text) numbers r
+afterText text numbers r = textWritten (enough curveBytes r) (textWorked (numbersWorked plain) text) (curveOfText text) numbers r
 
 -- after the curves in cycles
 unfoldable pub afterCyclesOfText : List ℕ → List ℕ → Rooms → TextWritten
-afterCyclesOfText text numbers r = textWritten (enough cyclesBytes r) (textWorked text) (cyclesOfText text) numbers r
+afterCyclesOfText text numbers r = textWritten (enough cyclesBytes r) (textWorked (numbersWorked plain) text) (cyclesOfText text) numbers r
+
+-- after the curve, where the numbers begin with a choice
+unfoldable pub afterChosenText : List ℕ → List ℕ → Rooms → TextWritten
+afterChosenText text numbers r = textWritten (enough curveBytes r) (textWorked chosenWorked text) (curveOfChosenText text) numbers r
+
+-- after the curves in cycles, where they do
+unfoldable pub afterCyclesOfChosenText : List ℕ → List ℕ → Rooms → TextWritten
+afterCyclesOfChosenText text numbers r = textWritten (enough cyclesBytes r) (textWorked chosenWorked text) (cyclesOfChosenText text) numbers r

@@ -4,7 +4,9 @@ use Prim.Native.Nat.{ℕ}
 use Rattle.rules.specs.Input.{Input}
 use Rattle.text.specs.declared.working.Wanted.{Wanted}
 use Rattle.text.specs.declared.working.Wanted.the-variants.{Misses, Cycles}
+use Rattle.text.specs.declared.working.Form.{Form}
 use Rattle.text.specs.Printed.{ofNumbers, ofText, numbersWorked, textWorked}
+use Rattle.text.specs.Choices.{plain, ofForm, formWorked}
 use Rattle.text.specs.Curve.{curve}
 use Rattle.text.specs.Cycles.{inCycles}
 use Rattle.text.specs.Rooms.{Rooms, enough, curveBytes, cyclesBytes, NumbersWritten, written, TextWritten, textWritten}
@@ -21,8 +23,9 @@ wantedBytes Cycles = cyclesBytes
 
 -- what a call for numbers leaves
 abbrev pub wantedAfter : Wanted → List ℕ → Rooms → NumbersWritten
-wantedAfter w ns r = written (enough (wantedBytes w) r) (numbersWorked ns) (ofNumbers (wantedText w) ns) r
+wantedAfter w ns r = written (enough (wantedBytes w) r) (numbersWorked plain ns) (ofNumbers (wantedText w) plain ns) r
 
--- what a call for a text leaves
-abbrev pub wantedAfterText : Wanted → List ℕ → List ℕ → Rooms → TextWritten
-wantedAfterText w text numbers r = textWritten (enough (wantedBytes w) r) (textWorked text) (ofText (wantedText w) text) numbers r
+-- what a call for a text leaves, whose numbers have the form f
+abbrev pub wantedAfterText : Form → Wanted → List ℕ → List ℕ → Rooms → TextWritten
+wantedAfterText f w text numbers r =
+    textWritten (enough (wantedBytes w) r) (textWorked (formWorked f) text) (ofText (ofForm f (wantedText w)) text) numbers r

@@ -18,11 +18,13 @@ use Rattle.rules.specs.Refusals.{verdict, outcome}
 use Rattle.rules.specs.Cycles.{cores}
 use Rattle.rules.specs.Longest.{longest}
 use Rattle.words.specs.Tables.{tableOf}
+use Rattle.text.specs.declared.working.Choice.{Choice}
 use Rattle.text.specs.Parts.{inputFrom}
 use Rattle.text.specs.Writing.{headLine, linesBelow, curveLines}
 use Rattle.text.specs.Put.{Put}
-use Rattle.text.specs.Curve.{curveOfNumbers}
-use Rattle.text.specs.Cycles.{longestLine, coreLines, cyclesOfNumbers}
+use Rattle.text.specs.Printed.{ofNumbers}
+use Rattle.text.specs.Curve.{curve}
+use Rattle.text.specs.Cycles.{longestLine, coreLines, inCycles}
 use Rattle.text.specs.Rooms.{Rooms, zeroIf}
 
 -- the graph call is made, with the rooms rs and ws before it and rs′ and ws′ after it: its answer; a finished table stands at the front of the result room, and the
@@ -47,11 +49,11 @@ pub record Wrote (worked : Bool) (text : List ℕ) (r : ℕ) (a b : Rooms) : Typ
 
 -- the call left a finished table of so many states in the result room, with so many units set aside: the input is accepted, the longest path covers
 -- every miss count of the table, and this is what is printed
-pub record Finishes (ns result : List ℕ) (states : ℕ) (aside : Units) : Type 0 where
-  pub accepted : verdict (inputFrom ns) ≡ Accepted
+pub record Finishes (ch : Choice) (ns result : List ℕ) (states : ℕ) (aside : Units) : Type 0 where
+  pub accepted : verdict (inputFrom ch ns) ≡ Accepted
   pub table : isTable (take states (tableOf result)) ≡ true
-  pub covered : largest (take states (tableOf result)) ≤ longest (inputFrom ns)
-  pub few : longest (inputFrom ns) ≤ 4096
-  pub curve-is : headLine states (aside .0) ++ curveLines (take states (tableOf result)) ≡ curveOfNumbers ns
-  pub cycles-are : (L : ℕ) → L ≡ longest (inputFrom ns)
-      → longestLine states (aside .0) L ++ linesBelow (coreLines L (take states (tableOf result))) (length cores) ≡ cyclesOfNumbers ns
+  pub covered : largest (take states (tableOf result)) ≤ longest (inputFrom ch ns)
+  pub few : longest (inputFrom ch ns) ≤ 4096
+  pub curve-is : headLine states (aside .0) ++ curveLines (take states (tableOf result)) ≡ ofNumbers curve ch ns
+  pub cycles-are : (L : ℕ) → L ≡ longest (inputFrom ch ns)
+      → longestLine states (aside .0) L ++ linesBelow (coreLines L (take states (tableOf result))) (length cores) ≡ ofNumbers inCycles ch ns

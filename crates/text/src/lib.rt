@@ -2,13 +2,14 @@
 use crate::traces::has_bytes;
 use crate::traces::put_listing;
 use crate::traces::put_reading;
+use crate::working::Form;
 use crate::working::Wanted;
 use crate::working::has_room;
-use crate::working::put_numbers;
+use crate::working::put_form;
 use crate::working::put_text;
 use reading::clear_numbers;
 ghost use mathlib.Core.Path.{_≡_};
-ghost use Rattle.text.specs.Rooms.{afterNumbers, afterText, afterCyclesOfNumbers, afterCyclesOfText};
+ghost use Rattle.text.specs.Rooms.{afterNumbers, afterText, afterCyclesOfNumbers, afterCyclesOfText, afterChosenText, afterCyclesOfChosenText};
 ghost use Rattle.text.specs.Traces.{accessesTold, damagedTold};
 ghost use Rattle.text.specs.Wanted.{wantedAfter, wantedAfterText};
 
@@ -62,7 +63,16 @@ pub fn curve_of_text(
 ) -> Written
     ensures { λ r. ⌜ record { answer = r; numbers = now (numbers .exit); rooms = record { result = now (result .exit); work = now (work .exit); counts = now (counts .exit); output = now (output .exit) } } ≡ afterText (now (text .entry)) (now (numbers .entry)) (record { result = now (result .entry); work = now (work .entry); counts = now (counts .entry); output = now (output .entry) }) ⌝ }
 {
-    write_text(Wanted::Misses, text, numbers, result, work, counts, output)
+    write_text(
+        Form::Plain,
+        Wanted::Misses,
+        text,
+        numbers,
+        result,
+        work,
+        counts,
+        output,
+    )
 }
 
 // The text of the curves in cycles for a text. Long enough are rooms as for `cycles_of_numbers`, and 16,384 numbers.
@@ -76,7 +86,63 @@ pub fn cycles_of_text(
 ) -> Written
     ensures { λ r. ⌜ record { answer = r; numbers = now (numbers .exit); rooms = record { result = now (result .exit); work = now (work .exit); counts = now (counts .exit); output = now (output .exit) } } ≡ afterCyclesOfText (now (text .entry)) (now (numbers .entry)) (record { result = now (result .entry); work = now (work .entry); counts = now (counts .entry); output = now (output .entry) }) ⌝ }
 {
-    write_text(Wanted::Cycles, text, numbers, result, work, counts, output)
+    write_text(
+        Form::Plain,
+        Wanted::Cycles,
+        text,
+        numbers,
+        result,
+        work,
+        counts,
+        output,
+    )
+}
+
+// The curve's text for a text whose numbers begin with a choice: the set count, the revision, and the start, 0 for an empty cache and 1 for a used one; then come the
+// curve's. Rooms as for `curve_of_text`.
+pub fn curve_of_chosen_text(
+    text: &[u8],
+    numbers: &mut [u32],
+    result: &mut [u64],
+    work: &mut [u64],
+    counts: &mut [u64],
+    output: &mut [u8],
+) -> Written
+    ensures { λ r. ⌜ record { answer = r; numbers = now (numbers .exit); rooms = record { result = now (result .exit); work = now (work .exit); counts = now (counts .exit); output = now (output .exit) } } ≡ afterChosenText (now (text .entry)) (now (numbers .entry)) (record { result = now (result .entry); work = now (work .entry); counts = now (counts .entry); output = now (output .entry) }) ⌝ }
+{
+    write_text(
+        Form::Chosen,
+        Wanted::Misses,
+        text,
+        numbers,
+        result,
+        work,
+        counts,
+        output,
+    )
+}
+
+// The text of the curves in cycles for such a text. Rooms as for `cycles_of_text`.
+pub fn cycles_of_chosen_text(
+    text: &[u8],
+    numbers: &mut [u32],
+    result: &mut [u64],
+    work: &mut [u64],
+    counts: &mut [u64],
+    output: &mut [u8],
+) -> Written
+    ensures { λ r. ⌜ record { answer = r; numbers = now (numbers .exit); rooms = record { result = now (result .exit); work = now (work .exit); counts = now (counts .exit); output = now (output .exit) } } ≡ afterCyclesOfChosenText (now (text .entry)) (now (numbers .entry)) (record { result = now (result .entry); work = now (work .entry); counts = now (counts .entry); output = now (output .entry) }) ⌝ }
+{
+    write_text(
+        Form::Chosen,
+        Wanted::Cycles,
+        text,
+        numbers,
+        result,
+        work,
+        counts,
+        output,
+    )
 }
 
 // The text of a trace's accesses, at the front of `output`; they go to `accesses`, as reading leaves them. Long enough is an output of 63
@@ -116,11 +182,12 @@ fn write_numbers(
     if !has_room(wanted, result.len(), work.len(), counts.len(), output.len()) {
         return Written::NoRoom;
     }
-    Written::Bytes(put_numbers(wanted, numbers, result, work, counts, output))
+    Written::Bytes(put_form(Form::Plain, wanted, numbers, result, work, counts, output))
 }
 
 // The text that is wanted, for a text.
 fn write_text(
+    form: Form,
     wanted: Wanted,
     text: &[u8],
     numbers: &mut [u32],
@@ -129,7 +196,7 @@ fn write_text(
     counts: &mut [u64],
     output: &mut [u8],
 ) -> Written
-    ensures { λ r. ⌜ record { answer = r; numbers = now (numbers .exit); rooms = record { result = now (result .exit); work = now (work .exit); counts = now (counts .exit); output = now (output .exit) } } ≡ wantedAfterText wanted (now (text .entry)) (now (numbers .entry)) (record { result = now (result .entry); work = now (work .entry); counts = now (counts .entry); output = now (output .entry) }) ⌝ }
+    ensures { λ r. ⌜ record { answer = r; numbers = now (numbers .exit); rooms = record { result = now (result .exit); work = now (work .exit); counts = now (counts .exit); output = now (output .exit) } } ≡ wantedAfterText form wanted (now (text .entry)) (now (numbers .entry)) (record { result = now (result .entry); work = now (work .entry); counts = now (counts .entry); output = now (output .entry) }) ⌝ }
 {
     if numbers.len() < 16384 {
         return Written::NoRoom;
@@ -137,7 +204,7 @@ fn write_text(
     if !has_room(wanted, result.len(), work.len(), counts.len(), output.len()) {
         return Written::NoRoom;
     }
-    let end = put_text(wanted, text, numbers, result, work, counts, output);
+    let end = put_text(form, wanted, text, numbers, result, work, counts, output);
     clear_numbers(numbers);
     Written::Bytes(end)
 }

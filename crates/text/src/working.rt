@@ -14,6 +14,7 @@ use rules::Cache;
 use rules::Count;
 use rules::Length;
 use rules::Outcome;
+use rules::Start;
 use rules::Units;
 use words::clear;
 ghost use mathlib.Core.Path.{_≡_};
@@ -32,6 +33,7 @@ ghost use Rattle.text.specs.Places.{Ends};
 ghost use Rattle.text.specs.Writing.{headLine, curveLines, linesBelow};
 ghost use Rattle.text.specs.Printed.{ofNumbers, ofText, numbersWorked, textWorked};
 ghost use Rattle.text.specs.Cycles.{longestLine, coreLines};
+ghost use Rattle.text.specs.Choices.{startOf, ofChosen, chosenWorked, ofForm, formWorked};
 ghost use Rattle.text.specs.Put.{Put};
 ghost use Rattle.text.specs.Rooms.{longEnough};
 ghost use Rattle.text.specs.Working.{Called, Counted, Finishes, Wrote};
@@ -43,8 +45,22 @@ pub(crate) enum Wanted {
     Cycles,
 }
 
-// The graph call of a cache with one set, of the first revision, for numbers that are complete: the tracked blocks end at `first`, the run lengths at `second`, the accesses at `third`.
+// What is chosen of a cache beside its ways: its sets, its revision, and how it is found.
+pub(crate) struct Choice {
+    sets: u32,
+    revision: u32,
+    start: Start,
+}
+
+// The form of a text's numbers: the curve's alone, or a set count, a revision and a start before them.
+pub(crate) enum Form {
+    Plain,
+    Chosen,
+}
+
+// The graph call for numbers that are complete: the tracked blocks end at `first`, the run lengths at `second`, the accesses at `third`.
 pub(crate) fn call(
+    choice: Choice,
     numbers: &[u32],
     first: usize,
     second: usize,
@@ -53,13 +69,15 @@ pub(crate) fn call(
     work: &mut [u64],
 ) -> Outcome
     requires { ⌜ Ends (now numbers) first second third × (3 ≤ first) × (first < second) × (second < third) × (third < length (now numbers)) × (320 ≤ length (now result)) × (25920 ≤ length (now work)) ⌝ }
-    ensures { λ r. ⌜ Called (inputFrom (now (numbers .entry))) r (now (result .entry)) (now (work .entry)) (now (result .exit)) (now (work .exit)) ⌝ }
+    ensures { λ r. ⌜ Called (inputFrom choice (now (numbers .entry))) r (now (result .entry)) (now (work .entry)) (now (result .exit)) (now (work .exit)) ⌝ }
 {
+    let start = choice.start;
     analyse(
         Cache {
-            sets: 1,
+            sets: choice.sets,
             ways: numbers[0],
-            revision: 1,
+            revision: choice.revision,
+            start,
         },
         numbers[1],
         &numbers[3..first],
@@ -72,15 +90,23 @@ pub(crate) fn call(
 }
 
 // The accesses of the longest path, for the same numbers, where the graph call is accepted.
-pub(crate) fn longest_of(numbers: &[u32], first: usize, second: usize, third: usize) -> u64
-    requires { ⌜ Ends (now numbers) first second third × (3 ≤ first) × (first < second) × (second < third) × (third < length (now numbers)) × (verdict (inputFrom (now numbers)) ≡ Accepted) ⌝ }
-    ensures { λ r. ⌜ r ≡ longest (inputFrom (now (numbers .entry))) ⌝ }
+pub(crate) fn longest_of(
+    choice: Choice,
+    numbers: &[u32],
+    first: usize,
+    second: usize,
+    third: usize,
+) -> u64
+    requires { ⌜ Ends (now numbers) first second third × (3 ≤ first) × (first < second) × (second < third) × (third < length (now numbers)) × (verdict (inputFrom choice (now numbers)) ≡ Accepted) ⌝ }
+    ensures { λ r. ⌜ r ≡ longest (inputFrom choice (now (numbers .entry))) ⌝ }
 {
+    let start = choice.start;
     match longest_path(
         Cache {
-            sets: 1,
+            sets: choice.sets,
             ways: numbers[0],
-            revision: 1,
+            revision: choice.revision,
+            start,
         },
         numbers[1],
         &numbers[3..first],
@@ -140,6 +166,7 @@ pub(crate) fn put_cycles(
 // The text that is wanted, for the same numbers, where the call has left a table of `states` states in the result room.
 pub(crate) fn put_wanted(
     wanted: Wanted,
+    choice: Choice,
     numbers: &[u32],
     first: usize,
     second: usize,
@@ -150,13 +177,13 @@ pub(crate) fn put_wanted(
     counts: &mut [u64],
     output: &mut [u8],
 ) -> usize
-    requires { ⌜ Ends (now numbers) first second third × (3 ≤ first) × (first < second) × (second < third) × (third < length (now numbers)) × Finishes (now numbers) (now result) states aside × (4097 ≤ length (now counts)) × (wantedBytes wanted ≤ length (now output)) ⌝ }
-    ensures { λ r. ⌜ Put (ofNumbers (wantedText wanted) (now (numbers .entry))) 0 r (now (output .entry)) (now (output .exit)) ⌝ }
+    requires { ⌜ Ends (now numbers) first second third × (3 ≤ first) × (first < second) × (second < third) × (third < length (now numbers)) × Finishes choice (now numbers) (now result) states aside × (4097 ≤ length (now counts)) × (wantedBytes wanted ≤ length (now output)) ⌝ }
+    ensures { λ r. ⌜ Put (ofNumbers (wantedText wanted) choice (now (numbers .entry))) 0 r (now (output .entry)) (now (output .exit)) ⌝ }
 {
     match wanted {
         Wanted::Misses => put_curve(result, states, aside, counts, output),
         Wanted::Cycles => {
-            let longest = longest_of(numbers, first, second, third);
+            let longest = longest_of(choice, numbers, first, second, third);
             put_cycles(result, states, aside, longest, counts, output)
         }
     }
@@ -165,6 +192,7 @@ pub(crate) fn put_wanted(
 // The same, and then the result room and the counts are cleared.
 pub(crate) fn put_finished(
     wanted: Wanted,
+    choice: Choice,
     numbers: &[u32],
     first: usize,
     second: usize,
@@ -175,11 +203,12 @@ pub(crate) fn put_finished(
     counts: &mut [u64],
     output: &mut [u8],
 ) -> usize
-    requires { ⌜ Ends (now numbers) first second third × (3 ≤ first) × (first < second) × (second < third) × (third < length (now numbers)) × Finishes (now numbers) (now result) states aside × (4097 ≤ length (now counts)) × (wantedBytes wanted ≤ length (now output)) ⌝ }
-    ensures { λ r. ⌜ Put (ofNumbers (wantedText wanted) (now (numbers .entry))) 0 r (now (output .entry)) (now (output .exit)) × (now (result .exit) ≡ replicate (length (now (result .entry))) 0) × (now (counts .exit) ≡ replicate (length (now (counts .entry))) 0) ⌝ }
+    requires { ⌜ Ends (now numbers) first second third × (3 ≤ first) × (first < second) × (second < third) × (third < length (now numbers)) × Finishes choice (now numbers) (now result) states aside × (4097 ≤ length (now counts)) × (wantedBytes wanted ≤ length (now output)) ⌝ }
+    ensures { λ r. ⌜ Put (ofNumbers (wantedText wanted) choice (now (numbers .entry))) 0 r (now (output .entry)) (now (output .exit)) × (now (result .exit) ≡ replicate (length (now (result .entry))) 0) × (now (counts .exit) ≡ replicate (length (now (counts .entry))) 0) ⌝ }
 {
     let end = put_wanted(
         wanted,
+        choice,
         numbers,
         first,
         second,
@@ -198,6 +227,7 @@ pub(crate) fn put_finished(
 // The text that is wanted of the numbers, or the line of a refusal, which leaves the rooms that are worked in as they were.
 pub(crate) fn put_numbers(
     wanted: Wanted,
+    choice: Choice,
     numbers: &[u32],
     result: &mut [u64],
     work: &mut [u64],
@@ -205,7 +235,7 @@ pub(crate) fn put_numbers(
     output: &mut [u8],
 ) -> usize
     requires { ⌜ (320 ≤ length (now result)) × (25920 ≤ length (now work)) × (4097 ≤ length (now counts)) × (wantedBytes wanted ≤ length (now output)) ⌝ }
-    ensures { λ r. ⌜ Wrote (numbersWorked (now (numbers .entry))) (ofNumbers (wantedText wanted) (now (numbers .entry))) r (record { result = now (result .entry); work = now (work .entry); counts = now (counts .entry); output = now (output .entry) }) (record { result = now (result .exit); work = now (work .exit); counts = now (counts .exit); output = now (output .exit) }) ⌝ }
+    ensures { λ r. ⌜ Wrote (numbersWorked choice (now (numbers .entry))) (ofNumbers (wantedText wanted) choice (now (numbers .entry))) r (record { result = now (result .entry); work = now (work .entry); counts = now (counts .entry); output = now (output .entry) }) (record { result = now (result .exit); work = now (work .exit); counts = now (counts .exit); output = now (output .exit) }) ⌝ }
 {
     let first = end_of(numbers, 2, 1);
     let second = end_of(numbers, first, 1);
@@ -213,10 +243,11 @@ pub(crate) fn put_numbers(
     if end_of(numbers, third, 2) != numbers.len() {
         return put_refused(output, 9);
     }
-    match call(numbers, first, second, third, result, work) {
+    match call(choice, numbers, first, second, third, result, work) {
         Outcome::Refused(why) => put_refused(output, why.number()),
         Outcome::Finished(states, aside) => put_finished(
             wanted,
+            choice,
             numbers,
             first,
             second,
@@ -230,8 +261,72 @@ pub(crate) fn put_numbers(
     }
 }
 
+// The start that a number stands for: 0 for an empty cache.
+fn start_of(number: u32) -> Start
+    ensures { λ r. ⌜ r ≡ startOf number ⌝ }
+{
+    if number == 0 {
+        return Start::Cold;
+    }
+    Start::Warm
+}
+
+// The text that is wanted of numbers that begin with a choice, or the line of a refusal: 9 too where one of the three is missing, or the start is neither 0 nor 1.
+pub(crate) fn put_chosen(
+    wanted: Wanted,
+    numbers: &[u32],
+    result: &mut [u64],
+    work: &mut [u64],
+    counts: &mut [u64],
+    output: &mut [u8],
+) -> usize
+    requires { ⌜ (320 ≤ length (now result)) × (25920 ≤ length (now work)) × (4097 ≤ length (now counts)) × (wantedBytes wanted ≤ length (now output)) ⌝ }
+    ensures { λ r. ⌜ Wrote (chosenWorked (now (numbers .entry))) (ofChosen (wantedText wanted) (now (numbers .entry))) r (record { result = now (result .entry); work = now (work .entry); counts = now (counts .entry); output = now (output .entry) }) (record { result = now (result .exit); work = now (work .exit); counts = now (counts .exit); output = now (output .exit) }) ⌝ }
+{
+    if numbers.len() < 3 {
+        return put_refused(output, 9);
+    }
+    if numbers[2] > 1 {
+        return put_refused(output, 9);
+    }
+    let start = start_of(numbers[2]);
+    let choice = Choice {
+        sets: numbers[0],
+        revision: numbers[1],
+        start,
+    };
+    put_numbers(wanted, choice, &numbers[3..], result, work, counts, output)
+}
+
+// The same of numbers of either form; document 01's cache has one set, is of the first revision and found empty.
+pub(crate) fn put_form(
+    form: Form,
+    wanted: Wanted,
+    numbers: &[u32],
+    result: &mut [u64],
+    work: &mut [u64],
+    counts: &mut [u64],
+    output: &mut [u8],
+) -> usize
+    requires { ⌜ (320 ≤ length (now result)) × (25920 ≤ length (now work)) × (4097 ≤ length (now counts)) × (wantedBytes wanted ≤ length (now output)) ⌝ }
+    ensures { λ r. ⌜ Wrote (formWorked form (now (numbers .entry))) (ofForm form (wantedText wanted) (now (numbers .entry))) r (record { result = now (result .entry); work = now (work .entry); counts = now (counts .entry); output = now (output .entry) }) (record { result = now (result .exit); work = now (work .exit); counts = now (counts .exit); output = now (output .exit) }) ⌝ }
+{
+    match form {
+        Form::Plain => {
+            let choice = Choice {
+                sets: 1,
+                revision: 1,
+                start: Start::Cold,
+            };
+            put_numbers(wanted, choice, numbers, result, work, counts, output)
+        }
+        Form::Chosen => put_chosen(wanted, numbers, result, work, counts, output),
+    }
+}
+
 // The text that is wanted of the text, or the line of a refusal.
 pub(crate) fn put_text(
+    form: Form,
     wanted: Wanted,
     text: &[u8],
     numbers: &mut [u32],
@@ -241,11 +336,11 @@ pub(crate) fn put_text(
     output: &mut [u8],
 ) -> usize
     requires { ⌜ (16384 ≤ length (now numbers)) × (320 ≤ length (now result)) × (25920 ≤ length (now work)) × (4097 ≤ length (now counts)) × (wantedBytes wanted ≤ length (now output)) ⌝ }
-    ensures { λ r. ⌜ Wrote (textWorked (now (text .entry))) (ofText (wantedText wanted) (now (text .entry))) r (record { result = now (result .entry); work = now (work .entry); counts = now (counts .entry); output = now (output .entry) }) (record { result = now (result .exit); work = now (work .exit); counts = now (counts .exit); output = now (output .exit) }) ⌝ }
+    ensures { λ r. ⌜ Wrote (textWorked (formWorked form) (now (text .entry))) (ofText (ofForm form (wantedText wanted)) (now (text .entry))) r (record { result = now (result .entry); work = now (work .entry); counts = now (counts .entry); output = now (output .entry) }) (record { result = now (result .exit); work = now (work .exit); counts = now (counts .exit); output = now (output .exit) }) ⌝ }
 {
     match read_numbers(text, numbers) {
         Read::Nothing => put_refused(output, 9),
-        Read::Numbers(n) => put_numbers(wanted, &numbers[..n], result, work, counts, output),
+        Read::Numbers(n) => put_form(form, wanted, &numbers[..n], result, work, counts, output),
     }
 }
 

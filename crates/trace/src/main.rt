@@ -1,15 +1,9 @@
 // The trace program: a trace on standard input, and on standard output its accesses; with the word `damaged` the places of its damaged blocks. All that it does itself
 // is to move bytes; what they are is `text`'s.
+use front::write_front;
 use text::Written;
 use text::accesses_of_trace;
 use text::damaged_of_trace;
-
-// The first `n` bytes go to standard output.
-fn write_front(bytes: &[u8], n: usize) {
-    if n <= bytes.len() {
-        io::write_all(1, &bytes[..n]);
-    }
-}
 
 // The accesses of a trace of up to 1,024 blocks, by way of `output`.
 fn tell_accesses(trace: &[u8], output: &mut [u8]) {

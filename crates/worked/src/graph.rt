@@ -1,8 +1,8 @@
 // The lines of a graph: what the graph call and the longest path answer, and what stands in the rooms after the call. The fields are
 //
-//     sets, ways, revision, limit | tracked blocks | run lengths | accesses | edges | words of the result room and of the working room | answer, set aside | states
+//     sets, ways, revision, limit, used | tracked blocks | run lengths | accesses | edges | words of the result room and of the working room | answer, set aside | states
 //
-// where the answer is 0 or the number of a refusal. A `worked` case is written with its answers to every question, which are compared; of a
+// where used is 1 for a cache that is found used, and left out otherwise, and the answer is 0 or the number of a refusal. A `worked` case is written with its answers to every question, which are compared; of a
 // `refusal` only what it gives is written, and of a `path` the longest path, which stands in the place of the answer.
 use crate::asked::ask_case;
 use crate::lines::count;
@@ -23,6 +23,7 @@ use estimate::analyse;
 use longest::longest_path;
 use rules::Cache;
 use rules::Outcome;
+use rules::Start;
 
 // The answers in numbers: the longest path; a refusal's number, or 0 with the number of states and the set-aside count.
 struct Got {
@@ -49,6 +50,14 @@ fn got_of(longest: Said, outcome: Outcome) -> Got {
     }
 }
 
+// How the cache is found: 1 says that it was used.
+fn found(used: u64) -> Start {
+    if used == 1 {
+        return Start::Warm;
+    }
+    Start::Cold
+}
+
 // Both calls on the lists of a line. Its first field has the cache and the limit.
 fn both(
     line: &[u64],
@@ -59,10 +68,12 @@ fn both(
     result: &mut [u64],
     work: &mut [u64],
 ) -> Got {
+    let start = found(number(line, 1, 4));
     let cache = Cache {
         sets: small(number(line, 1, 0)),
         ways: small(number(line, 1, 1)),
         revision: small(number(line, 1, 2)),
+        start,
     };
     let limit = small(number(line, 1, 3));
     let longest = length_said(longest_path(cache, limit, tracked, runs, accesses, edges));

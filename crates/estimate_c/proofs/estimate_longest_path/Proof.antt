@@ -7,10 +7,17 @@ use Rattle.estimate_c.proofs.estimate_longest_path.Statement.{statement
 use Rattle.estimate_c.proofs.estimate_longest_path.Tie as tie
 
 returns : tie.Need-returns
-returns c = ap (λ a. lengthGiven a (now (c .before .before .before .before .before .before .before .before .args .longest))) (sym (c .before .found .given .1) ∙ c .before .before .before .longest-path .ensures)
+returns c =
+    let called = c .before .before .before in
+    ap (λ a. lengthGiven a (now (called .before .before .before .before .before .before .args .longest)))
+    (sym (c .before .found .given .1) ∙ rw (called .before .cache-named .ensures) at (called .longest-path .ensures))
 
 returns-2 : tie.Need-returns-2
-returns-2 c = rw (c .number .ensures) (ap (λ a. lengthGiven a (now (c .before .before .before .before .before .before .before .before .before .args .longest))) (sym (c .before .before .reason .given .1) ∙ c .before .before .before .before .longest-path .ensures))
+returns-2 c =
+    let called = c .before .before .before .before in
+    rw (c .number .ensures)
+    (ap (λ a. lengthGiven a (now (called .before .before .before .before .before .before .args .longest)))
+    (sym (c .before .before .reason .given .1) ∙ rw (called .before .cache-named .ensures) at (called .longest-path .ensures)))
 
 pub estimate-longest-path-spec : {M : Type 1} → statement M
-estimate-longest-path-spec = tie.close (tie.spec (λ c κs. search needs) (λ c. search needs) (λ c. search needs) (λ c κs. search needs) returns returns-2)
+estimate-longest-path-spec = tie.close (tie.spec (λ c κs. search needs) (λ c κs. search needs) (λ c. search needs) (λ c. search needs) (λ c κs. search needs) returns returns-2)

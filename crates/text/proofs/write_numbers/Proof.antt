@@ -1,10 +1,11 @@
--- `write_numbers` meets its contract: where a room is too short nothing is written, otherwise what `put_numbers` writes.
+-- `write_numbers` meets its contract: where a room is too short nothing is written, otherwise what `put_form` writes.
 use mathlib.Core.Path.{_≡_, sym, _∙_}
 use mathlib.Core.Bool.{true}
 use borrow.Author.Needs.{needs}
 use borrow.Author.Tests.{not-true, not-false}
 use denote.Ref.{now}
 use Rattle.text.specs.Printed.{ofNumbers, numbersWorked}
+use Rattle.text.specs.Choices.{plain}
 use Rattle.text.specs.Rooms.{Rooms, enough}
 use Rattle.text.specs.Wanted.{wantedText, wantedBytes}
 use Rattle.text.proofs.Rooms.{rooms-long, written-none, written-all}
@@ -22,14 +23,14 @@ long c = sym (c .before .has-room .ensures) ∙ not-false _ (c .if1 .left)
 returns : tie.Need-returns
 returns c = written-none _ _ _ _ (sym (c .before .has-room .ensures) ∙ not-true _ (c .if1 .taken))
 
-put-numbers-requires : tie.Need-put-numbers-requires
-put-numbers-requires c κs = rooms-long _ _ _ _ _ (long (c .before .before .before .before))
+put-form-requires : tie.Need-put-form-requires
+put-form-requires c κs = rooms-long _ _ _ _ _ (long (c .before .before .before .before))
 
 returns-2 : tie.Need-returns-2
 returns-2 c =
     let a = c .before .before .before .before .before .before .before .before .before .before .before .before .before .before .before .before .before .before .before .before .args in
     let numbers = now (a .numbers) in
-    written-all (wantedBytes (a .wanted)) (numbersWorked numbers) (ofNumbers (wantedText (a .wanted)) numbers) (rooms (c .before .before .before .before .before .before .before .before .before .before .before .before .before .before .before .before .before .before .before .before)) (long (c .before .before .before .before .before .before .before .before .before .before .before .before .before)) _ _ _ _ _ (c .before .before .before .before .before .before .before .before .put-numbers .ensures)
+    written-all (wantedBytes (a .wanted)) (numbersWorked plain numbers) (ofNumbers (wantedText (a .wanted)) plain numbers) (rooms (c .before .before .before .before .before .before .before .before .before .before .before .before .before .before .before .before .before .before .before .before)) (long (c .before .before .before .before .before .before .before .before .before .before .before .before .before)) _ _ _ _ _ (c .before .before .before .before .before .before .before .before .put-form .ensures)
 
 pub write-numbers-spec : {M : Type 1} → statement M
 write-numbers-spec =
@@ -37,7 +38,7 @@ write-numbers-spec =
     (tie.spec
     (λ c κs. search needs)
     returns
-    put-numbers-requires
+    put-form-requires
     (λ c. search needs)
     (λ c. search needs)
     (λ c. search needs)

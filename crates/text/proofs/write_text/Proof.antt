@@ -5,6 +5,7 @@ use borrow.Author.Needs.{needs}
 use borrow.Author.Tests.{not-true, not-false}
 use denote.Ref.{now}
 use Rattle.text.specs.Printed.{ofText, textWorked}
+use Rattle.text.specs.Choices.{ofForm, formWorked}
 use Rattle.text.specs.Rooms.{Rooms, enough}
 use Rattle.text.specs.Wanted.{wantedText, wantedBytes}
 use Rattle.text.proofs.Rooms.{rooms-long, written-all, cleared, few-numbers, text-none, text-all}
@@ -35,11 +36,11 @@ returns-3 c =
     let a = c .before .before .before .before .before .before .before .before .before .before .before .before .before .before .before .before .before .before .before .before .before .before .before .before .before .before .before .before .before .args in
     let put = c .before .before .before .before .before .before .before .before .before .before .before .before .before .before .put-text in
     let bytes = wantedBytes (a .wanted) in
-    let worked = textWorked (now (a .text)) in
-    let text = ofText (wantedText (a .wanted)) (now (a .text)) in
+    let worked = textWorked (formWorked (a .form)) (now (a .text)) in
+    let text = ofText (ofForm (a .form) (wantedText (a .wanted))) (now (a .text)) in
     let enough = long (c .before .before .before .before .before .before .before .before .before .before .before .before .before .before .before .before .before .before .before .before) in
     text-all bytes worked text (now (a .numbers)) (rooms (c .before .before .before .before .before .before .before .before .before .before .before .before .before .before .before .before .before .before .before .before .before .before .before .before .before .before .before .before .before)) (c .before .before .before .before .before .before .before .before .before .before .before .before .before .before .before .before .before .before .before .before .before .before .if1 .left) enough _ _
-    (cleared _ (put .last .1 .1 .0) _ (c .before .before .clear-numbers .ensures) (put .kept .1 .1 .0))
+    (cleared _ (put .last .1 .1 .1 .0) _ (c .before .before .clear-numbers .ensures) (put .kept .1 .1 .1 .0))
     (written-all bytes worked text (rooms (c .before .before .before .before .before .before .before .before .before .before .before .before .before .before .before .before .before .before .before .before .before .before .before .before .before .before .before .before .before)) enough _ _ _ _ _ (put .ensures))
 
 pub write-text-spec : {M : Type 1} → statement M

@@ -15,7 +15,7 @@ returns : tie.Need-returns
 returns c =
     let start = c .before .before .before .before .before .before .before .before .before .before .before .before .before .before .before .before in
     let a = start .args in
-    let same = input-is (now (a .numbers)) (a .first) (a .second) (a .third) (start .pre .0) in
+    let same = input-is (now (a .numbers)) (a .first) (a .second) (a .third) (start .pre .0) (a .choice) in
     let left = c .before .before .before .before .analyse .ensures in
     record {
       answer = call-answers _ _ _ _ _ _ _ _ (omega arith) (omega arith) _ _ _ left ∙ ap outcome (sym same);

@@ -9,13 +9,13 @@ returns : tie.Need-returns
 returns c =
     let start = c .before .before .before .before .before .before .before .before .before .before .before in
     let a = start .args in
-    longest-told (now (a .numbers)) (a .first) (a .second) (a .third) (start .pre .0) (start .pre .5) _ (c .before .before .before .longest-path .ensures) _ (c .before .n .given .1)
+    longest-told (a .choice) (now (a .numbers)) (a .first) (a .second) (a .third) (start .pre .0) (start .pre .5) _ (c .before .before .before .longest-path .ensures) _ (c .before .n .given .1)
 
 returns-2 : tie.Need-returns-2
 returns-2 c =
     let start = c .before .before .before .before .before .before .before .before .before .before .before in
     let a = start .args in
-    absurd (longest-not-refused (now (a .numbers)) (a .first) (a .second) (a .third) (start .pre .0) (start .pre .5) _ (c .before .before .before .longest-path .ensures) _ (c .before .why .given .1))
+    absurd (longest-not-refused (a .choice) (now (a .numbers)) (a .first) (a .second) (a .third) (start .pre .0) (start .pre .5) _ (c .before .before .before .longest-path .ensures) _ (c .before .why .given .1))
 
 pub longest-of-spec : {M : Type 1} → statement M
 longest-of-spec =

@@ -21,7 +21,7 @@ put-refused-requires c κs = line-fits (c .before .before .before .before .befor
 returns : tie.Need-returns
 returns c =
     let incomplete = not-ends _ _ _ _ _ (c .before .before .before .before .before .before .before .before .end-of .ensures) (c .before .before .before .before .before .before .before .end-of2 .ensures) (c .before .before .before .before .before .before .end-of3 .ensures) (c .before .before .before .before .before .end-of4 .ensures) (c .before .before .before .before .if1 .taken) in
-    wrote-refused _ _ _ _ _ (incomplete-unworked _ incomplete) (put-is _ _ _ _ _ _ (c .before .before .put-refused .ensures) (printed-incomplete _ incomplete _)) refl refl refl
+    wrote-refused _ _ _ _ _ (incomplete-unworked _ _ incomplete) (put-is _ _ _ _ _ _ (c .before .before .put-refused .ensures) (printed-incomplete _ _ incomplete _)) refl refl refl
 
 call-requires : tie.Need-call-requires
 call-requires c κs =
@@ -36,7 +36,7 @@ put-finished-requires : tie.Need-put-finished-requires
 put-finished-requires c κs =
     let here = ends (c .before .before .before .before .before .before .before .before .before .before .before .before .before) in
     let order = ends-in-order _ _ _ _ here in
-    let done = left-finished _ (is-complete _ _ _ _ here) _ _ _ _ _ (c .before .before .before .before .before .before .before .before .before .before .call .ensures) _ _ (c .before .before .before .before .states .given .1) in
+    let done = left-finished _ _ (is-complete _ _ _ _ here) _ _ _ _ _ (c .before .before .before .before .before .before .before .before .before .before .call .ensures) _ _ (c .before .before .before .before .states .given .1) in
     (here, order .0, order .1, order .2, order .3, done, c .before .before .before .before .before .before .before .before .before .before .before .before .before .before .before .before .before .before .before .before .before .before .before .pre .2, c .before .before .before .before .before .before .before .before .before .before .before .before .before .before .before .before .before .before .before .before .before .before .before .pre .3)
 
 returns-2 : tie.Need-returns-2
@@ -45,8 +45,8 @@ returns-2 c =
     let called = c .before .before .before .before .before .before .before .before .before .before .before .before .call .ensures in
     let why = c .before .before .before .before .before .before .why .given .1 in
     let kept = called .refused _ why in
-    wrote-refused _ _ _ _ _ (refused-unworked _ all _ _ _ _ _ called _ why)
-    (put-is _ _ _ _ _ _ (c .before .before .put-refused2 .ensures) (printed-refused _ all _ _ _ _ _ called _ _ _ (c .before .before .before .number .ensures) why))
+    wrote-refused _ _ _ _ _ (refused-unworked _ _ all _ _ _ _ _ called _ why)
+    (put-is _ _ _ _ _ _ (c .before .before .put-refused2 .ensures) (printed-refused _ _ all _ _ _ _ _ called _ _ _ (c .before .before .before .number .ensures) why))
     (kept .0) (kept .1) refl
 
 returns-3 : tie.Need-returns-3
@@ -55,9 +55,9 @@ returns-3 c =
     let call = c .before .before .before .before .before .before .before .before .before .before .before .before .before .before .before .before .before .call in
     let put = c .before .before .before .before .before .before .put-finished .ensures in
     let states = c .before .before .before .before .before .before .before .before .before .before .before .states .given .1 in
-    wrote-worked _ _ _ _ _ (finished-worked _ all _ _ _ _ _ (call .ensures) _ _ states) (put .0)
-    (cleared _ (call .last .1 .1 .1 .1 .0) _ (put .1) (call .kept .1 .1 .1 .1 .0))
-    (finished-cleared _ all _ _ _ _ _ (call .ensures) _ _ states) (put .2)
+    wrote-worked _ _ _ _ _ (finished-worked _ _ all _ _ _ _ _ (call .ensures) _ _ states) (put .0)
+    (cleared _ (call .last .1 .1 .1 .1 .1 .0) _ (put .1) (call .kept .1 .1 .1 .1 .1 .0))
+    (finished-cleared _ _ all _ _ _ _ _ (call .ensures) _ _ states) (put .2)
 
 pub put-numbers-spec : {M : Type 1} → statement M
 put-numbers-spec =

@@ -40,13 +40,13 @@ returns : tie.Need-returns
 returns c =
     let start = (c .before .before .before .before .before .before .before .before .before .before .before .before .before) in
     put-is _ _ _ _ _ _ (c .before .before .before .before .put-curve .ensures)
-    (start .pre .5 .curve-is ∙ sym (ap (λ (w : Wanted). ofNumbers (wantedText w) (now (start .args .numbers))) (c .before .before .before .before .before .before .before .enum-told .given .1)))
+    (start .pre .5 .curve-is ∙ sym (ap (λ (w : Wanted). ofNumbers (wantedText w) (start .args .choice) (now (start .args .numbers))) (c .before .before .before .before .before .before .before .enum-told .given .1)))
 
 returns-2 : tie.Need-returns-2
 returns-2 c =
     let start = (c .before .before .before .before .before .before .before .before .before .before .before .before .before .before) in
     put-is _ _ _ _ _ _ (c .before .before .before .before .put-cycles .ensures)
-    (start .pre .5 .cycles-are _ (c .before .before .before .before .before .before .before .longest-of .ensures) ∙ sym (ap (λ (w : Wanted). ofNumbers (wantedText w) (now (start .args .numbers))) (c .before .before .before .before .before .before .before .before .enum-told2 .given .1)))
+    (start .pre .5 .cycles-are _ (c .before .before .before .before .before .before .before .longest-of .ensures) ∙ sym (ap (λ (w : Wanted). ofNumbers (wantedText w) (start .args .choice) (now (start .args .numbers))) (c .before .before .before .before .before .before .before .before .enum-told2 .given .1)))
 
 pub put-wanted-spec : {M : Type 1} → statement M
 put-wanted-spec =

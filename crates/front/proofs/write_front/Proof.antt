@@ -3,8 +3,8 @@ use mathlib.Core.Path.{sym}
 use borrow.Author.Needs.{needs}
 use denote.Ref.{now}
 use lib.Seq.{length-take-le}
-use Rattle.trace.proofs.write_front.Statement.{statement}
-use Rattle.trace.proofs.write_front.Tie as tie
+use Rattle.front.proofs.write_front.Statement.{statement}
+use Rattle.front.proofs.write_front.Tie as tie
 
 part-long : tie.Need-slice-aggregate-write-all
 part-long c = let a = c .before .before .before .args in sym (length-take-le (a .n) (now (a .bytes)) (c .before .if1 .taken))

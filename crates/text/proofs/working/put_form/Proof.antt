@@ -1,0 +1,41 @@
+-- `put_form` meets its contract: each arm puts what is printed for numbers of its form.
+use mathlib.Core.Path.{sym, ap}
+use borrow.Author.Needs.{needs}
+use denote.Ref.{now}
+use Rattle.text.specs.declared.working.Form.{Form}
+use Rattle.text.specs.Choices.{ofForm, formWorked}
+use Rattle.text.specs.Wanted.{wantedText}
+use Rattle.text.proofs.Rooms.{wrote-same}
+use Rattle.text.proofs.working.put_form.Statement.{statement}
+use Rattle.text.proofs.working.put_form.Tie as tie
+
+returns : tie.Need-returns
+returns c =
+    let a = c .before .before .before .before .before .before .before .before .before .before .before .before .before .before .before .before .before .before .before .before .args in
+    let form = c .before .before .before .before .before .before .before .before .before .before .before .before .before .enum-told .given .1 in
+    wrote-same _ _ _ _ _ _ _ (c .before .before .before .before .before .before .before .before .put-numbers .ensures) (sym (ap (λ (f : Form). formWorked f (now (a .numbers))) form)) (sym (ap (λ (f : Form). ofForm f (wantedText (a .wanted)) (now (a .numbers))) form))
+
+returns-2 : tie.Need-returns-2
+returns-2 c =
+    let a = c .before .before .before .before .before .before .before .before .before .before .before .before .before .before .before .before .before .before .before .before .args in
+    let form = c .before .before .before .before .before .before .before .before .before .before .before .before .before .enum-told2 .given .1 in
+    wrote-same _ _ _ _ _ _ _ (c .before .before .before .before .before .before .before .before .put-chosen .ensures) (sym (ap (λ (f : Form). formWorked f (now (a .numbers))) form)) (sym (ap (λ (f : Form). ofForm f (wantedText (a .wanted)) (now (a .numbers))) form))
+
+pub put-form-spec : {M : Type 1} → statement M
+put-form-spec =
+    tie.close
+    (tie.spec
+    (λ c. search needs)
+    (λ c κs. search needs)
+    (λ c. search needs)
+    (λ c κs. search needs)
+    (λ c. search needs)
+    (λ c. search needs)
+    (λ c. search needs)
+    (λ c. search needs)
+    returns
+    (λ c. search needs)
+    (λ c. search needs)
+    (λ c. search needs)
+    (λ c. search needs)
+    returns-2)
