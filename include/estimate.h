@@ -23,7 +23,7 @@
 #include <stdint.h>
 
 /* The version of what is declared here: it rises where a function, a constant or what a call gives changes. */
-#define ESTIMATE_VERSION 4
+#define ESTIMATE_VERSION 5
 
 #ifdef __cplusplus
 extern "C" {
@@ -120,6 +120,12 @@ uint64_t estimate_smallest_budget(const uint64_t *table, size_t words, size_t st
 /* The units at each miss count from 0 to the largest go to the front of `counts`, which is zero beyond them, and the largest to `*largest`. Gives
  * ESTIMATE_SPREAD_ROOM, and writes nothing, if `counts` has fewer than the largest + 1. */
 uint64_t estimate_spread(const uint64_t *table, size_t words, size_t states, uint64_t *counts, size_t counts_room, uint64_t *largest);
+
+/* A quick yes or no, about a spread or any other row of numbers: 1 if those at places above `budget`, strictly, sum to at most `allowance`, and 0 if not. A budget at or
+ * beyond the last place has none above it, so that the answer is 1. The sum is the true one, also past 64 bits. The numbers are added from the last place downwards,
+ * and no further once the allowance is passed. Nothing is refused, and nothing is written. Asked of what estimate_spread left in `counts`, with the zeros behind the
+ * largest or without, it says whether the units that estimate_above finds are at most `allowance`. */
+uint64_t estimate_within(const uint64_t *spread, size_t places, uint64_t budget, uint64_t allowance);
 
 /* The accesses of the longest path from the first node to the last go to `*longest`. Gives ESTIMATE_DONE, or the first of 1, 10, 11, 2, 3, 4, 5 that applies, as the
  * graph call does; a refusal writes nothing. */

@@ -29,6 +29,7 @@ static const struct call calls[] = {
     {"spread", answer_spread},
     {"above", answer_above},
     {"smallest", answer_smallest},
+    {"quick", answer_quick},
     {"trace_write", answer_trace_write},
     {"trace_read", answer_trace_read},
     {"trace_list", answer_trace_list},
@@ -103,6 +104,18 @@ bool take_half(const struct words *words, size_t *taken, uint32_t *number)
         return false;
     *taken = place;
     *number = (uint32_t)whole;
+    return true;
+}
+
+bool take_numbers(const struct words *words, size_t *taken, size_t count, uint64_t **list)
+{
+    if (count > words->count - *taken)
+        return false;
+    *list = keep(count * sizeof **list);
+    for (size_t i = 0; i < count; i++) {
+        if (!take_number(words, taken, *list + i))
+            return false;
+    }
     return true;
 }
 

@@ -18,9 +18,10 @@ struct words {
 };
 
 /* A word is taken from place `*taken` on, and the place moves behind it. False if there is none, or none of this kind: a decimal number below 2^64 or below 2^32,
- * so many numbers below 2^32 (kept for this call). */
+ * so many numbers below 2^64 or below 2^32 (kept for this call). */
 bool take_number(const struct words *words, size_t *taken, uint64_t *number);
 bool take_half(const struct words *words, size_t *taken, uint32_t *number);
+bool take_numbers(const struct words *words, size_t *taken, size_t count, uint64_t **list);
 bool take_halves(const struct words *words, size_t *taken, size_t count, uint32_t **list);
 
 /* A decimal number below 2^64, and nothing else, up to the byte `end` or the zero byte behind the text. Gives where that is, or NULL. */
@@ -81,6 +82,7 @@ bool answer_graph(const struct words *words);
 bool answer_spread(const struct words *words);
 bool answer_above(const struct words *words);
 bool answer_smallest(const struct words *words);
+bool answer_quick(const struct words *words);
 bool answer_trace_write(const struct words *words);
 bool answer_trace_read(const struct words *words);
 bool answer_trace_list(const struct words *words);

@@ -1,6 +1,6 @@
 -- What a function for C gives: a number, and what stands behind each pointer afterwards. Where the answer is a refusal, what would have taken a value keeps
 -- what stood there.
-use mathlib.Core.Bool.{Bool, true, false}
+use mathlib.Core.Bool.{Bool, true, false, cond}
 use mathlib.Core.List.{List}
 use Prim.Native.Nat.{ℕ}
 use Rattle.rules.specs.declared.Amount.{Amount}
@@ -95,6 +95,12 @@ pub record RoomGiven : Type 0 where
 -- of what the spread answers and leaves
 abbrev pub spreadGiven : SpreadAnswer → ℕ → RoomGiven
 spreadGiven s value = record { answer = countGiven (s .answer) value; room = s .room }
+
+-- ---- a yes or no
+
+-- yes is 1, no is 0
+abbrev pub yesGiven : Bool → ℕ
+yesGiven b = cond b 1 0
 
 -- ---- a trace: 0, or the refusal's number; its values; and the room
 

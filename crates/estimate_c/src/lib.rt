@@ -7,6 +7,7 @@ use questions::above_in;
 use questions::smallest_budget_in;
 use questions::smallest_cycles_in;
 use questions::spread_in;
+use questions::within;
 use recorder::Counted;
 use recorder::Reading;
 use recorder::list_damaged;
@@ -36,11 +37,12 @@ ghost use Rattle.rules.specs.Cycles.{aboveCyclesAnswer, cycleBudgetAnswer};
 ghost use Rattle.rules.specs.Input.{inputOf};
 ghost use Rattle.rules.specs.Longest.{longestAnswer};
 ghost use Rattle.rules.specs.Questions.{aboveAnswer, budgetAnswer, spreadAnswer};
+ghost use Rattle.rules.specs.Within.{isWithin};
 ghost use Rattle.words.specs.Tables.{tableOf};
 ghost use Rattle.estimate.specs.Call.{analysed};
 ghost use Rattle.recorder.specs.Calls.{traceRead, traceListed, traceWritten};
 ghost use Rattle.text.specs.Rooms.{afterNumbers, afterText, afterCyclesOfNumbers, afterCyclesOfText};
-ghost use Rattle.estimate_c.specs.Given.{startGiven, cacheGiven, graphGiven, amountGiven, countGiven, timeGiven, lengthGiven, spreadGiven, readGiven, countedGiven, bytesOf, numbersGiven, textGiven};
+ghost use Rattle.estimate_c.specs.Given.{startGiven, cacheGiven, graphGiven, amountGiven, countGiven, timeGiven, lengthGiven, spreadGiven, readGiven, countedGiven, bytesOf, numbersGiven, textGiven, yesGiven};
 
 // How the cache is found: `warm` says that it was used.
 fn start_named(warm: bool) -> Start
@@ -174,6 +176,17 @@ pub extern "C" fn estimate_spread(
     ensures { λ r. ⌜ record { answer = record { number = r; value = now (largest .exit) }; room = now (counts .exit) } ≡ spreadGiven (spreadAnswer (take states (tableOf (now (table .entry)))) (now (counts .entry))) (now (largest .entry)) ⌝ }
 {
     give_count(spread_in(table, states, counts), largest)
+}
+
+// A quick yes or no: whether the numbers of a spread at places above a budget sum to at most an allowance.
+#[no_mangle]
+pub extern "C" fn estimate_within(spread: &[u64], budget: u64, allowance: u64) -> u64
+    ensures { λ r. ⌜ r ≡ yesGiven (isWithin (now (spread .entry)) budget allowance) ⌝ }
+{
+    if within(spread, budget, allowance) {
+        return 1;
+    }
+    0
 }
 
 // The accesses of the longest path.

@@ -7,3 +7,5 @@ pub mod Counting
 pub mod InCycles
 -- The first states of a table in words
 pub mod Span
+-- A row added from its top end
+pub mod Downwards

@@ -31,5 +31,7 @@ pub mod Longest
 pub mod Questions
 -- Curves in cycles
 pub mod Cycles
+-- Request 5/13: a quick yes or no
+pub mod Within
 -- The worked numbers of document 01
 pub mod WorkedNumbers

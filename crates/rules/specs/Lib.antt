@@ -21,3 +21,5 @@ pub mod Refusals
 -- Request 9/13: curves in cycles
 pub mod Longest
 pub mod Cycles
+-- Request 5/13: a quick yes or no
+pub mod Within
