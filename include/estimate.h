@@ -1,16 +1,16 @@
-/* The estimate of instruction-cache misses, for C: the graph call, the longest path, the questions put to a finished table, curves as text, and the trace
- * recorder's blocks read, judged and written.
+/* The estimate of instruction-cache misses, for C: the graph call, the longest path, the questions put to a finished table, curves as text, the trace
+ * recorder's blocks read, judged and written, and the graph of a listing.
  *
  * Every function ends with an answer or a refusal, whatever the numbers are. A refusal writes nothing, but that reading a trace says which block is damaged; the
  * functions for curves write it as a line of text, and leave all other rooms as they were but the room for a text's numbers, which is zero afterwards.
  * A stretch of memory is passed as a pointer and how many elements it has; an empty one may be NULL and 0. A pointer to one value (states, aside, units, budget,
- * largest, longest, cycles, count, place, blocks) is never NULL, and what is lent for writing overlaps nothing else that is passed: these two things the caller
- * has to see to.
+ * largest, longest, cycles, count, place, blocks, nodes, access_count, edge_count) is never NULL, and what is lent for writing overlaps nothing else that is passed: these
+ * two things the caller has to see to.
  *
  * A call keeps no state: nothing is left of it but what it wrote to the memory that it was lent. So the functions are reentrant, and calls may run at the same
  * time, in threads or one interrupting another, as long as what each is lent for writing is lent to it alone. They use no heap, and no memory but what they
- * are lent and the stack, of which 4,096 bytes are enough: no function calls itself, and a painted stack showed 1,760 bytes for the graph call and 3,272 for the
- * deepest, a question put to a row of states, on each of the large inputs that were tried.
+ * are lent and the stack, of which 4,096 bytes are enough: only those below estimate_listing call each other, 8 deep at most, and a painted stack showed 1,760 bytes for
+ * the graph call, 3,272 for a question put to a row of states and 3,880 for the deepest, a listing 8 deep, on each of the large inputs that were tried.
  *
  * Linked from libestimate_c.a, for x86-64, which takes of the C library only memcpy and memset. `rt staticlib estimate_c` makes it:
  *
@@ -23,7 +23,7 @@
 #include <stdint.h>
 
 /* The version of what is declared here: it rises where a function, a constant or what a call gives changes. */
-#define ESTIMATE_VERSION 5
+#define ESTIMATE_VERSION 6
 
 #ifdef __cplusplus
 extern "C" {
@@ -71,6 +71,11 @@ struct estimate_state {
 #define ESTIMATE_BLOCK_ACCESSES 125
 #define ESTIMATE_TRACE_BYTES 16896
 
+/* The room that the graph of a listing has to have: run lengths, accesses, and numbers of edges, two for each. */
+#define ESTIMATE_LISTING_RUNS 64
+#define ESTIMATE_LISTING_ACCESSES 4096
+#define ESTIMATE_LISTING_EDGE_NUMBERS 4032
+
 /* The cores in service, numbered from 0: a hit and a miss take (1,8) (1,10) (1,12) (1,20) (2,10) (2,16) (2,24) (2,40) (3,15) (3,30) (3,60) (4,100) cycles. */
 #define ESTIMATE_CORES 12
 
@@ -90,8 +95,11 @@ enum estimate_refusal {
     ESTIMATE_REVISION = 11,   /* a revision other than 1, 2 */
     ESTIMATE_TRACE_LENGTH = 12, /* the bytes of a trace are no multiple of 512 */
     ESTIMATE_DAMAGED = 13,    /* a block of a trace is damaged: its check, its zeros, its count or its number is wrong */
+    ESTIMATE_LISTING = 14,    /* the tokens are no listing */
+    ESTIMATE_EXPANSION = 15,  /* the listing's graph has more than 64 nodes or 4,096 accesses */
     ESTIMATE_NO_CORE = 16,    /* no such core */
-    ESTIMATE_TRACE_ROOM = 21  /* room for fewer than 125 accesses a block, one place a block, or the blocks to be written */
+    ESTIMATE_TRACE_ROOM = 21, /* room for fewer than 125 accesses a block, one place a block, or the blocks to be written */
+    ESTIMATE_LISTING_ROOM = 22 /* room for fewer than 64 run lengths, 4,096 accesses or 2,016 edges */
 };
 
 /* The graph call: a cache of `sets` sets of `ways` ways, in which a block belongs to the set given by its number modulo `sets`; the core's `revision`,
@@ -202,6 +210,16 @@ uint64_t estimate_trace_damaged(const uint8_t *trace, size_t bytes, uint64_t *pl
  * and no accesses are no block. Gives ESTIMATE_DONE, or the first of 4 and 21 (`bytes` is below 512 for each block) that applies. To read the trace again hand in its
  * blocks and not the whole room: a block of zeros behind them is damaged by its number. */
 uint64_t estimate_trace_write(const uint32_t *accesses, size_t access_count, uint8_t *trace, size_t bytes, size_t *blocks);
+
+/* The graph of a listing. Tokens: 1 and a block is an access; 2, a sequence, 3, a sequence, 4 is a branch with two arms; 5, a count from 1 to 64, a sequence, 6 is
+ * a loop run exactly that often; branches and loops together stand at most 8 deep in each other. Gives ESTIMATE_DONE, or the first of ESTIMATE_LISTING_ROOM,
+ * ESTIMATE_LISTING, ESTIMATE_EXPANSION that applies. Done, the graph stands at the front of the three rooms as the graph call takes it (edges two numbers each),
+ * they are zero beyond it, and `*nodes`, `*access_count` and `*edge_count` are how many run lengths, accesses and edges it has. Refused, nothing is written. */
+uint64_t estimate_listing(const uint32_t *tokens, size_t token_count,
+                          uint32_t *runs, size_t runs_room,
+                          uint32_t *accesses, size_t accesses_room,
+                          uint32_t *edges, size_t edge_numbers_room,
+                          size_t *nodes, size_t *access_count, size_t *edge_count);
 
 #ifdef __cplusplus
 }

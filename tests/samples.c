@@ -33,6 +33,7 @@ static const struct call calls[] = {
     {"trace_write", answer_trace_write},
     {"trace_read", answer_trace_read},
     {"trace_list", answer_trace_list},
+    {"listing", answer_listing},
 };
 
 /* ---- What is kept for the call at hand ---- */

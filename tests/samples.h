@@ -86,5 +86,6 @@ bool answer_quick(const struct words *words);
 bool answer_trace_write(const struct words *words);
 bool answer_trace_read(const struct words *words);
 bool answer_trace_list(const struct words *words);
+bool answer_listing(const struct words *words);
 
 #endif

@@ -5,13 +5,15 @@ use Prim.Native.Nat.{ℕ}
 use Rattle.rules.specs.declared.Count.{Count}
 use Rattle.rules.specs.declared.Outcome.{Outcome}
 use Rattle.rules.specs.Questions.{SpreadAnswer}
+use Rattle.listing.specs.declared.Expansion.{Expansion}
+use Rattle.listing.specs.Call.{ExpandingLeft}
 use Rattle.estimate.specs.Call.{After}
 use Rattle.recorder.specs.declared.Counted.{Counted}
 use Rattle.recorder.specs.declared.Reading.{Reading}
 use Rattle.recorder.specs.Calls.{ReadLeft, CountLeft}
 use Rattle.text.specs.declared.Written.{Written}
 use Rattle.text.specs.Rooms.{Rooms, NumbersWritten, TextWritten}
-use Rattle.estimate_c.specs.Given.{ValueGiven, outcomeGiven, graphGiven, countGiven, spreadGiven, readingGiven, readGiven, countedGiven, bytesOf, numbersGiven, textGiven}
+use Rattle.estimate_c.specs.Given.{ValueGiven, outcomeGiven, graphGiven, expansionGiven, listingGiven, countGiven, spreadGiven, readingGiven, readGiven, countedGiven, bytesOf, numbersGiven, textGiven}
 
 pub graph-given : {o p : Outcome} {result work : List ℕ} (a : After) (states aside : ℕ)
     → o ≡ p
@@ -19,6 +21,13 @@ pub graph-given : {o p : Outcome} {result work : List ℕ} (a : After) (states a
     → outcomeGiven p states aside result work ≡ graphGiven a states aside
 graph-given {result = result} {work = work} a states aside told leaves =
     ap (λ q. outcomeGiven q states aside result work) (sym told) ∙ ap (λ b. graphGiven b states aside) leaves
+
+pub listing-given : {o p : Expansion} {runs accesses edges : List ℕ} (a : ExpandingLeft) (nodes many links : ℕ)
+    → o ≡ p
+    → record { answer = o; runs = runs; accesses = accesses; edges = edges } ≡ a
+    → expansionGiven p nodes many links runs accesses edges ≡ listingGiven a nodes many links
+listing-given {runs = runs} {accesses = accesses} {edges = edges} a nodes many links told leaves =
+    ap (λ q. expansionGiven q nodes many links runs accesses edges) (sym told) ∙ ap (λ b. listingGiven b nodes many links) leaves
 
 -- what is given of an answer: `o` is what the question answered, and `p` what it has to answer
 pub value-given : {A : Type 0} (given : A → ℕ → ValueGiven) {g : ValueGiven} {o p : A} {value : ℕ}

@@ -19,6 +19,9 @@ use Rattle.rules.specs.declared.Time.the-variants.{Cycles, Refused as RefusedTi
 use Rattle.rules.specs.Answers.{numberOf}
 use Rattle.rules.specs.Input.{cache}
 use Rattle.rules.specs.Questions.{SpreadAnswer}
+use Rattle.listing.specs.declared.Expansion.{Expansion}
+use Rattle.listing.specs.declared.Expansion.the-variants.{Graph as GraphOf, Refused as RefusedExpansion}
+use Rattle.listing.specs.Call.{ExpandingLeft}
 use Rattle.estimate.specs.Call.{After}
 use Rattle.recorder.specs.declared.Reading.{Reading}
 use Rattle.recorder.specs.declared.Reading.the-variants.{Accesses as AccessesRead, Damaged, Refused as RefusedReading}
@@ -129,6 +132,29 @@ blocksGiven (RefusedBlocks r) value = record { number = numberOf r; value = valu
 -- of what they leave
 abbrev pub countedGiven : CountLeft → ℕ → RoomGiven
 countedGiven a value = record { answer = blocksGiven (a .answer) value; room = a .room }
+
+-- ---- the graph of a listing: 0, or the refusal's number; how many nodes, accesses and edges; the three rooms
+
+-- what is given of it
+pub record ListingGiven : Type 0 where
+  pub number : ℕ
+  pub nodes : ℕ
+  pub accessCount : ℕ
+  pub edgeCount : ℕ
+  pub runs : List ℕ
+  pub accesses : List ℕ
+  pub edges : List ℕ
+
+-- of its answer, with what stood behind the three pointers, and the rooms as they are now
+abbrev pub expansionGiven : Expansion → ℕ → ℕ → ℕ → List ℕ → List ℕ → List ℕ → ListingGiven
+expansionGiven (GraphOf n b e) nodes accessCount edgeCount runs accesses edges =
+    record { number = 0; nodes = n; accessCount = b; edgeCount = e; runs = runs; accesses = accesses; edges = edges }
+expansionGiven (RefusedExpansion r) nodes accessCount edgeCount runs accesses edges =
+    record { number = numberOf r; nodes = nodes; accessCount = accessCount; edgeCount = edgeCount; runs = runs; accesses = accesses; edges = edges }
+
+-- of what the call leaves
+abbrev pub listingGiven : ExpandingLeft → ℕ → ℕ → ℕ → ListingGiven
+listingGiven a nodes accessCount edgeCount = expansionGiven (a .answer) nodes accessCount edgeCount (a .runs) (a .accesses) (a .edges)
 
 -- ---- a curve's text: how many bytes it has, or 0 where a room is too short; and the rooms
 

@@ -1,6 +1,8 @@
 // The estimate for C: what include/estimate.h declares. Each function calls the one in Rattle that answers (`estimate_graph` calls `analyse`, the questions call
 // those of a table in words or of a lent row), and gives the answer as numbers.
 use estimate::analyse;
+use listing::Expansion;
+use listing::expand;
 use longest::longest_path;
 use questions::above_cycles_in;
 use questions::above_in;
@@ -39,10 +41,11 @@ ghost use Rattle.rules.specs.Longest.{longestAnswer};
 ghost use Rattle.rules.specs.Questions.{aboveAnswer, budgetAnswer, spreadAnswer};
 ghost use Rattle.rules.specs.Within.{isWithin};
 ghost use Rattle.words.specs.Tables.{tableOf};
+ghost use Rattle.listing.specs.Call.{afterExpanding};
 ghost use Rattle.estimate.specs.Call.{analysed};
 ghost use Rattle.recorder.specs.Calls.{traceRead, traceListed, traceWritten};
 ghost use Rattle.text.specs.Rooms.{afterNumbers, afterText, afterCyclesOfNumbers, afterCyclesOfText};
-ghost use Rattle.estimate_c.specs.Given.{startGiven, cacheGiven, graphGiven, amountGiven, countGiven, timeGiven, lengthGiven, spreadGiven, readGiven, countedGiven, bytesOf, numbersGiven, textGiven, yesGiven};
+ghost use Rattle.estimate_c.specs.Given.{startGiven, cacheGiven, graphGiven, listingGiven, amountGiven, countGiven, timeGiven, lengthGiven, spreadGiven, readGiven, countedGiven, bytesOf, numbersGiven, textGiven, yesGiven};
 
 // How the cache is found: `warm` says that it was used.
 fn start_named(warm: bool) -> Start
@@ -362,6 +365,30 @@ pub extern "C" fn estimate_trace_write(
             0
         }
         Counted::Refused(reason) => reason.number(),
+    }
+}
+
+// The graph of a listing.
+#[no_mangle]
+pub extern "C" fn estimate_listing(
+    tokens: &[u32],
+    runs: &mut [u32],
+    accesses: &mut [u32],
+    edges: &mut [u32],
+    nodes: &mut usize,
+    access_count: &mut usize,
+    edge_count: &mut usize,
+) -> u64
+    ensures { λ r. ⌜ record { number = r; nodes = now (nodes .exit); accessCount = now («access_count» .exit); edgeCount = now («edge_count» .exit); runs = now (runs .exit); accesses = now (accesses .exit); edges = now (edges .exit) } ≡ listingGiven (afterExpanding (now (tokens .entry)) (now (runs .entry)) (now (accesses .entry)) (now (edges .entry))) (now (nodes .entry)) (now («access_count» .entry)) (now («edge_count» .entry)) ⌝ }
+{
+    match expand(tokens, runs, accesses, edges) {
+        Expansion::Graph(many_nodes, many_accesses, many_edges) => {
+            *nodes = many_nodes;
+            *access_count = many_accesses;
+            *edge_count = many_edges;
+            0
+        }
+        Expansion::Refused(reason) => reason.number(),
     }
 }
 

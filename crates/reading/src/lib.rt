@@ -1,7 +1,8 @@
 // Text read: the numbers of a well-formed text, document 01, section 7.
+use basics::clear_numbers;
 ghost use mathlib.Core.Path.{_≡_};
 ghost use Prim.Native.Nat.{_≤_};
-ghost use lib.ListN.{length, replicate};
+ghost use lib.ListN.{length};
 ghost use Rattle.reading.specs.Reading.{isGap, isDigit};
 ghost use Rattle.reading.specs.Call.{afterReading};
 ghost use Rattle.reading.specs.Found.{Found};
@@ -131,17 +132,6 @@ fn scan(text: &[u8], numbers: &mut [u32]) -> Progress
         i += 1;
     }
     end_number(numbers, p)
-}
-
-// Every number is zero.
-pub fn clear_numbers(numbers: &mut [u32])
-    ensures { λ _. ⌜ now (numbers .exit) ≡ replicate (length (now (numbers .entry))) 0 ⌝ }
-{
-    let mut at: usize = 0;
-    while at < numbers.len() {
-        numbers[at] = 0;
-        at += 1;
-    }
 }
 
 // The numbers of `text` go to the front of `numbers`, which has to have room for 16,384. Where nothing is read `numbers` is zero.

@@ -1,9 +1,9 @@
 // Runs on the trace recorder's disk: a trace is read, its damaged blocks are listed, a run of accesses is written. Document 02, request 7/13.
+use basics::clear_numbers;
 use blocks::first_damaged;
 use copying::copy_all;
 use fields::clear_bytes;
 use listing::list_all;
-use reading::clear_numbers;
 use rules::Refusal;
 use words::clear;
 use writing::write_all;

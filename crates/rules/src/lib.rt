@@ -155,6 +155,9 @@ pub enum Refusal {
     NoCore,
     TraceLength,
     TraceRoom,
+    ListingRoom,
+    Listing,
+    Expansion,
 }
 
 impl Refusal {
@@ -177,6 +180,9 @@ impl Refusal {
             Refusal::NoCore => 16,
             Refusal::TraceLength => 12,
             Refusal::TraceRoom => 21,
+            Refusal::ListingRoom => 22,
+            Refusal::Listing => 14,
+            Refusal::Expansion => 15,
         }
     }
 }

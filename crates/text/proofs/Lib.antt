@@ -18,3 +18,7 @@ pub mod Choices
 pub mod Rooms
 -- What is said of a trace
 pub mod TraceLines
+-- The curve program's input for a listing
+pub mod Inputs
+-- That the curve program reads what the listing program writes
+pub mod Piped

@@ -44,13 +44,13 @@ pub words-one : (w : List ℕ) (g : ℕ) (t : List ℕ) → allDigits w ≡ true
 words-one [] g t h s l = absurd (omega arith)
 words-one (b ∷ w) g t h s l = words-under-way [] (b ∷ w) g t h l
 
-word-decimal : (n g : ℕ) (t : List ℕ) → isGap g ≡ true → wordsFrom [] (decimal n ++ (g ∷ t)) ≡ decimal n ∷ wordsFrom [] t
+pub word-decimal : (n g : ℕ) (t : List ℕ) → isGap g ≡ true → wordsFrom [] (decimal n ++ (g ∷ t)) ≡ decimal n ∷ wordsFrom [] t
 word-decimal n g t l = words-one (decimal n) g t (decimal-digits n) (decimal-some n) l
 
 -- ---- a list of numbers
 
 -- no number of 20 digits or fewer is lost
-values-read : (M : ℕ) → M < 10 ^ 20 → (ns : List ℕ) → Every (λ n. n ≤ M) ns → map (valueFrom 0) (map decimal ns) ≡ ns
+pub values-read : (M : ℕ) → M < 10 ^ 20 → (ns : List ℕ) → Every (λ n. n ≤ M) ns → map (valueFrom 0) (map decimal ns) ≡ ns
 values-read M l [] h = refl
 values-read M l (n ∷ ns) h = ap₂ _∷_ (decimal-value n (omega (arith, h .0))) (values-read M l ns (h .1))
 
@@ -59,7 +59,7 @@ unfolding spaced wordsFrom
 spaced-words [] = refl
 spaced-words (n ∷ ns) = word-decimal n 32 (spaced ns) refl ∙ ap (λ (ws : List (List ℕ)). decimal n ∷ ws) (spaced-words ns)
 
-all-numbers : (ns : List ℕ) → Every (λ n. n ≤ 4294967295) ns → allNumbers (map decimal ns) ≡ true
+pub all-numbers : (ns : List ℕ) → Every (λ n. n ≤ 4294967295) ns → allNumbers (map decimal ns) ≡ true
 all-numbers [] h = refl
 all-numbers (n ∷ ns) h = both (isNumber (decimal n)) (allNumbers (map decimal ns)) (decimal-number n (h .0)) (all-numbers ns (h .1))
 

@@ -27,8 +27,15 @@ use Rattle.text.proofs.Rooms.{front-put}
 
 -- ---- numbers on a line
 
-entry-long : (x : ℕ) (last : Bool) → length (decimal x ++ (gap last ∷ [])) ≤ 21
+pub entry-long : (x : ℕ) (last : Bool) → length (decimal x ++ (gap last ∷ [])) ≤ 21
 entry-long x last = omega (arith, length-append (decimal x) (gap last ∷ []), decimal-long x)
+
+pub line-long : (xs : List ℕ) → length (numbersLine xs) ≤ length xs * 21
+unfolding numbersLine
+line-long [] = le-refl 0
+line-long (x ∷ xs) =
+    let last = eqb (length xs) 0 in
+    omega (arith, length-append (decimal x ++ (gap last ∷ [])) (numbersLine xs), entry-long x last, line-long xs)
 
 -- the next number is the last where none is behind it
 last-is : (xs : List ℕ) (i : ℕ) → i < length xs → eqb (i + 1) (length xs) ≡ eqb (length (drop (i + 1) xs)) 0

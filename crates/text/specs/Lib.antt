@@ -24,3 +24,7 @@ pub mod Working
 pub mod Wanted
 -- What is said of a trace
 pub mod Traces
+-- The text of a listing, and the curve program's input
+pub mod Listings
+-- what a call for it leaves
+pub mod GraphRooms

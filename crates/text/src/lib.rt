@@ -1,4 +1,6 @@
 // The programs' text: from the bytes that they read to the bytes that they write, in rooms that the caller lends.
+use crate::graphs::put_listed_text;
+use crate::graphs::room_for_graph;
 use crate::traces::has_bytes;
 use crate::traces::put_listing;
 use crate::traces::put_reading;
@@ -7,13 +9,15 @@ use crate::working::Wanted;
 use crate::working::has_room;
 use crate::working::put_form;
 use crate::working::put_text;
-use reading::clear_numbers;
+use basics::clear_numbers;
 ghost use mathlib.Core.Path.{_≡_};
+ghost use Rattle.text.specs.GraphRooms.{afterListing};
 ghost use Rattle.text.specs.Rooms.{afterNumbers, afterText, afterCyclesOfNumbers, afterCyclesOfText, afterChosenText, afterCyclesOfChosenText};
 ghost use Rattle.text.specs.Traces.{accessesTold, damagedTold};
 ghost use Rattle.text.specs.Wanted.{wantedAfter, wantedAfterText};
 
 mod cores;
+mod graphs;
 mod parts;
 mod traces;
 mod working;
@@ -165,6 +169,32 @@ pub fn damaged_of_trace(trace: &[u8], places: &mut [u64], output: &mut [u8]) -> 
         return Written::NoRoom;
     }
     let end = put_listing(trace, places, output);
+    Written::Bytes(end)
+}
+
+// The curve program's input for the text of a listing, at the front of `output`. What was worked in is zero then; a refusal, which is a line too, leaves it as it was
+// but for `numbers`, which is zero. Long enough are 16,384 numbers, 64 run lengths, 4,096 accesses, 4,032 numbers of edges, and an output of 262,144 bytes.
+pub fn graph_of_text(
+    text: &[u8],
+    numbers: &mut [u32],
+    runs: &mut [u32],
+    accesses: &mut [u32],
+    edges: &mut [u32],
+    output: &mut [u8],
+) -> Written
+    ensures { λ r. ⌜ record { answer = r; numbers = now (numbers .exit); rooms = record { runs = now (runs .exit); accesses = now (accesses .exit); edges = now (edges .exit); output = now (output .exit) } } ≡ afterListing (now (text .entry)) (now (numbers .entry)) (record { runs = now (runs .entry); accesses = now (accesses .entry); edges = now (edges .entry); output = now (output .entry) }) ⌝ }
+{
+    if !room_for_graph(
+        numbers.len(),
+        runs.len(),
+        accesses.len(),
+        edges.len(),
+        output.len(),
+    ) {
+        return Written::NoRoom;
+    }
+    let end = put_listed_text(text, numbers, runs, accesses, edges, output);
+    clear_numbers(numbers);
     Written::Bytes(end)
 }
 

@@ -18,7 +18,7 @@ ghost use Rattle.text.specs.Put.{Put};
 ghost use Rattle.text.specs.Traces.{gap, numbersLine, namedLine, damagedLine, readingText, listingText, traceBytes};
 
 // `n`, and behind it the newline if it is the last of its line, otherwise a space.
-fn put_entry(room: &mut [u8], at: usize, n: u64, last: bool) -> usize
+pub(crate) fn put_entry(room: &mut [u8], at: usize, n: u64, last: bool) -> usize
     requires { ⌜ at + 21 ≤ length (now room) ⌝ }
     ensures { λ r. ⌜ Put (decimal n ++ (gap last ∷ [])) at r (now (room .entry)) (now (room .exit)) ⌝ }
 {
@@ -29,8 +29,8 @@ fn put_entry(room: &mut [u8], at: usize, n: u64, last: bool) -> usize
     put(room, end, b" ")
 }
 
-// The accesses on a line.
-fn put_accesses(room: &mut [u8], at: usize, accesses: &[u32]) -> usize
+// The accesses on a line; or other numbers of 32 bits.
+pub(crate) fn put_accesses(room: &mut [u8], at: usize, accesses: &[u32]) -> usize
     requires { ⌜ at + length (now accesses) * 21 ≤ length (now room) ⌝ }
     ensures { λ r. ⌜ Put (numbersLine (now (accesses .entry))) at r (now (room .entry)) (now (room .exit)) ⌝ }
 {

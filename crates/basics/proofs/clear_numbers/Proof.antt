@@ -6,10 +6,10 @@ use native.Mathlib.Omega.{arith}
 use borrow.Author.Fill.{fill-none, fill-more}
 use denote.Ref.{now}
 use lib.ListN.{length, drop, replicate}
 use Rattle.basics.proofs.Lists.{all-filled}
 use borrow.Author.Needs.{needs}
-use Rattle.reading.proofs.clear_numbers.Statement.{statement}
-use Rattle.reading.proofs.clear_numbers.Tie as tie
+use Rattle.basics.proofs.clear_numbers.Statement.{statement}
+use Rattle.basics.proofs.clear_numbers.Tie as tie
 
 abbrev Inv-loop : tie.InvT-loop
 Inv-loop numbers₀ at₀ numbers at = (at ≤ length numbers₀) × (length numbers ≡ length numbers₀) × (numbers ≡ replicate at 0 ++ drop at numbers₀)
