@@ -1,10 +1,10 @@
 /* The estimate of instruction-cache misses, for C: the graph call, the longest path, the questions put to a finished table, curves as text, the trace
- * recorder's blocks read, judged and written, and the graph of a listing.
+ * recorder's blocks read, judged and written, the graph of a listing, and the nightly build.
  *
  * Every function ends with an answer or a refusal, whatever the numbers are. A refusal writes nothing, but that reading a trace says which block is damaged; the
  * functions for curves write it as a line of text, and leave all other rooms as they were but the room for a text's numbers, which is zero afterwards.
  * A stretch of memory is passed as a pointer and how many elements it has; an empty one may be NULL and 0. A pointer to one value (states, aside, units, budget,
- * largest, longest, cycles, count, place, blocks, nodes, access_count, edge_count) is never NULL, and what is lent for writing overlaps nothing else that is passed: these
+ * largest, longest, cycles, count, place, blocks, nodes, access_count, edge_count, and those of a report) is never NULL, and what is lent for writing overlaps nothing else that is passed: these
  * two things the caller has to see to.
  *
  * A call keeps no state: nothing is left of it but what it wrote to the memory that it was lent. So the functions are reentrant, and calls may run at the same
@@ -24,7 +24,7 @@
 #include <stdint.h>
 
 /* The version of what is declared here: it rises where a function, a constant or what a call gives changes. */
-#define ESTIMATE_VERSION 6
+#define ESTIMATE_VERSION 7
 
 #ifdef __cplusplus
 extern "C" {
@@ -77,6 +77,11 @@ struct estimate_state {
 #define ESTIMATE_LISTING_ACCESSES 4096
 #define ESTIMATE_LISTING_EDGE_NUMBERS 4032
 
+/* The nightly build: the most graphs in one call, the words of a graph's row, and of the working room that the call has to have. */
+#define ESTIMATE_MOST_GRAPHS 256
+#define ESTIMATE_ROW_WORDS 5
+#define ESTIMATE_NIGHTLY_WORDS 26240
+
 /* The cores in service, numbered from 0: a hit and a miss take (1,8) (1,10) (1,12) (1,20) (2,10) (2,16) (2,24) (2,40) (3,15) (3,30) (3,60) (4,100) cycles. */
 #define ESTIMATE_CORES 12
 
@@ -91,7 +96,7 @@ enum estimate_refusal {
     ESTIMATE_ROOM = 6,        /* room for fewer than `limit` result states, or fewer than 5,184 working states */
     ESTIMATE_ROW = 7,         /* the states are no table */
     ESTIMATE_SPREAD_ROOM = 8, /* spread room shorter than the largest misses + 1 */
-    ESTIMATE_TEXT = 9,        /* malformed text: only in a curve's text, as `refused 9` */
+    ESTIMATE_TEXT = 9,        /* malformed: only in a curve's text, as `refused 9`, and in a row of the nightly build */
     ESTIMATE_SETS = 10,       /* a set count other than 1, 2, 4, 8, 16 */
     ESTIMATE_REVISION = 11,   /* a revision other than 1, 2 */
     ESTIMATE_TRACE_LENGTH = 12, /* the bytes of a trace are no multiple of 512 */
@@ -99,6 +104,7 @@ enum estimate_refusal {
     ESTIMATE_LISTING = 14,    /* the tokens are no listing */
     ESTIMATE_EXPANSION = 15,  /* the listing's graph has more than 64 nodes or 4,096 accesses */
     ESTIMATE_NO_CORE = 16,    /* no such core */
+    ESTIMATE_NIGHTLY = 20,    /* more than 256 graphs, counts that do not use the list up exactly, or fewer rows than graphs */
     ESTIMATE_TRACE_ROOM = 21, /* room for fewer than 125 accesses a block, one place a block, or the blocks to be written */
     ESTIMATE_LISTING_ROOM = 22 /* room for fewer than 64 run lengths, 4,096 accesses or 2,016 edges */
 };
@@ -221,6 +227,18 @@ uint64_t estimate_listing(const uint32_t *tokens, size_t token_count,
                           uint32_t *accesses, size_t accesses_room,
                           uint32_t *edges, size_t edge_numbers_room,
                           size_t *nodes, size_t *access_count, size_t *edge_count);
+
+/* The nightly build: `numbers` are at most 256 graphs, each a count and then so many numbers in the curve program's order, on a cache of one set, of the first revision,
+ * found empty. A row of five words for each graph goes to the front of `rows`, which is zero beyond them: 0, how many states the finished table has, its set-aside
+ * count, the accesses of the longest path, and the smallest budget for `allowance`; or the number of a refusal, and zeros. A missing number or one left over, or more
+ * than ESTIMATE_NUMBERS of them, is that graph's 9. Each row is that of the graph by itself. Gives ESTIMATE_DONE, or the first that applies of ESTIMATE_NIGHTLY and
+ * ESTIMATE_ROOM (room for fewer than 5,248 working states). Done, `work` is zero, and the report goes to the eight numbers: graphs accepted, graphs refused under 9, 1,
+ * 2, 3, 4 and 5, and the sum of the set-aside counts. Refused, nothing is written. */
+uint64_t estimate_nightly(const uint32_t *numbers, size_t count, uint64_t allowance,
+                          uint64_t *rows, size_t rows_words,
+                          uint64_t *work, size_t work_words,
+                          uint64_t *accepted, uint64_t *text, uint64_t *ways, uint64_t *limit,
+                          uint64_t *tracked, uint64_t *accesses, uint64_t *graph, uint64_t *aside);
 
 #ifdef __cplusplus
 }

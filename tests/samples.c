@@ -34,6 +34,7 @@ static const struct call calls[] = {
     {"trace_read", answer_trace_read},
     {"trace_list", answer_trace_list},
     {"listing", answer_listing},
+    {"nightly", answer_nightly},
 };
 
 /* ---- What is kept for the call at hand ---- */

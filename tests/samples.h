@@ -87,5 +87,6 @@ bool answer_trace_write(const struct words *words);
 bool answer_trace_read(const struct words *words);
 bool answer_trace_list(const struct words *words);
 bool answer_listing(const struct words *words);
+bool answer_nightly(const struct words *words);
 
 #endif

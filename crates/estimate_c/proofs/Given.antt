@@ -11,9 +11,12 @@ use Rattle.estimate.specs.Call.{After}
 use Rattle.recorder.specs.declared.Counted.{Counted}
 use Rattle.recorder.specs.declared.Reading.{Reading}
 use Rattle.recorder.specs.Calls.{ReadLeft, CountLeft}
+use Rattle.nightly.specs.declared.Built.{Built}
+use Rattle.nightly.specs.declared.Report.{Report}
+use Rattle.nightly.specs.Call.{BuildLeft}
 use Rattle.text.specs.declared.Written.{Written}
 use Rattle.text.specs.Rooms.{Rooms, NumbersWritten, TextWritten}
-use Rattle.estimate_c.specs.Given.{ValueGiven, outcomeGiven, graphGiven, expansionGiven, listingGiven, countGiven, spreadGiven, readingGiven, readGiven, countedGiven, bytesOf, numbersGiven, textGiven}
+use Rattle.estimate_c.specs.Given.{ValueGiven, outcomeGiven, graphGiven, expansionGiven, listingGiven, builtGiven, nightlyGiven, countGiven, spreadGiven, readingGiven, readGiven, countedGiven, bytesOf, numbersGiven, textGiven}
 
 pub graph-given : {o p : Outcome} {result work : List ℕ} (a : After) (states aside : ℕ)
     → o ≡ p
@@ -28,6 +31,13 @@ pub listing-given : {o p : Expansion} {runs accesses edges : List ℕ} (a : Expa
     → expansionGiven p nodes many links runs accesses edges ≡ listingGiven a nodes many links
 listing-given {runs = runs} {accesses = accesses} {edges = edges} a nodes many links told leaves =
     ap (λ q. expansionGiven q nodes many links runs accesses edges) (sym told) ∙ ap (λ b. listingGiven b nodes many links) leaves
+
+pub nightly-given : {o p : Built} {rows work : List ℕ} (a : BuildLeft) (report : Report)
+    → o ≡ p
+    → record { answer = o; rows = rows; work = work } ≡ a
+    → builtGiven p report rows work ≡ nightlyGiven a report
+nightly-given {rows = rows} {work = work} a report told leaves =
+    ap (λ q. builtGiven q report rows work) (sym told) ∙ ap (λ b. nightlyGiven b report) leaves
 
 -- what is given of an answer: `o` is what the question answered, and `p` what it has to answer
 pub value-given : {A : Type 0} (given : A → ℕ → ValueGiven) {g : ValueGiven} {o p : A} {value : ℕ}

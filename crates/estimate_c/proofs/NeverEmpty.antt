@@ -11,7 +11,7 @@ use Rattle.rules.specs.declared.Verdict.the-variants.{Accepted, Refused}
 use Rattle.rules.specs.Answers.{numberOf}
 use Rattle.rules.specs.Input.{Input}
 use Rattle.rules.specs.Refusals.{verdict}
-use Rattle.text.specs.Parts.{complete, inputFrom}
+use Rattle.parts.specs.Parts.{complete, inputFrom}
 use Rattle.text.specs.Choices.{plain}
 use Rattle.reading.specs.Reading.{wellFormed, numbersIn}
 use Rattle.text.specs.Writing.{refusedLine, headWords}

@@ -28,6 +28,10 @@ use Rattle.recorder.specs.declared.Reading.the-variants.{Accesses as AccessesRe
 use Rattle.recorder.specs.declared.Counted.{Counted}
 use Rattle.recorder.specs.declared.Counted.the-variants.{Blocks, Refused as RefusedBlocks}
 use Rattle.recorder.specs.Calls.{readingSays, ReadLeft, CountLeft}
+use Rattle.nightly.specs.declared.Built.{Built}
+use Rattle.nightly.specs.declared.Built.the-variants.{Report as ReportOf, Refused as RefusedBuild}
+use Rattle.nightly.specs.declared.Report.{Report}
+use Rattle.nightly.specs.Call.{BuildLeft}
 use Rattle.text.specs.declared.Written.{Written}
 use Rattle.text.specs.declared.Written.the-variants.{Bytes, NoRoom}
 use Rattle.text.specs.Rooms.{Rooms, NumbersWritten, TextWritten}
@@ -181,3 +185,21 @@ pub record TextGiven : Type 0 where
 -- of what the call for a text leaves, with the room for numbers
 abbrev pub textGiven : TextWritten → TextGiven
 textGiven a = record { bytes = bytesOf (a .answer); numbers = a .numbers; rooms = a .rooms }
+
+-- ---- the nightly build: 0, or the refusal's number; the report; the rows and the working room
+
+-- what is given of it
+pub record NightlyGiven : Type 0 where
+  pub number : ℕ
+  pub report : Report
+  pub rows : List ℕ
+  pub work : List ℕ
+
+-- of its answer, with the report that stood behind the pointers, and the rooms as they are now
+abbrev pub builtGiven : Built → Report → List ℕ → List ℕ → NightlyGiven
+builtGiven (ReportOf a) report rows work = record { number = 0; report = a; rows = rows; work = work }
+builtGiven (RefusedBuild r) report rows work = record { number = numberOf r; report = report; rows = rows; work = work }
+
+-- of what the call leaves
+abbrev pub nightlyGiven : BuildLeft → Report → NightlyGiven
+nightlyGiven a report = builtGiven (a .answer) report (a .rows) (a .work)

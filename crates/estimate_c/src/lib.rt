@@ -4,6 +4,8 @@ use estimate::analyse;
 use listing::Expansion;
 use listing::expand;
 use longest::longest_path;
+use nightly::Built;
+use nightly::build;
 use questions::above_cycles_in;
 use questions::above_in;
 use questions::smallest_budget_in;
@@ -44,8 +46,9 @@ ghost use Rattle.words.specs.Tables.{tableOf};
 ghost use Rattle.listing.specs.Call.{afterExpanding};
 ghost use Rattle.estimate.specs.Call.{analysed};
 ghost use Rattle.recorder.specs.Calls.{traceRead, traceListed, traceWritten};
+ghost use Rattle.nightly.specs.Call.{afterBuild};
 ghost use Rattle.text.specs.Rooms.{afterNumbers, afterText, afterCyclesOfNumbers, afterCyclesOfText};
-ghost use Rattle.estimate_c.specs.Given.{startGiven, cacheGiven, graphGiven, listingGiven, amountGiven, countGiven, timeGiven, lengthGiven, spreadGiven, readGiven, countedGiven, bytesOf, numbersGiven, textGiven, yesGiven};
+ghost use Rattle.estimate_c.specs.Given.{startGiven, cacheGiven, graphGiven, listingGiven, amountGiven, countGiven, timeGiven, lengthGiven, spreadGiven, readGiven, countedGiven, bytesOf, numbersGiven, textGiven, yesGiven, nightlyGiven};
 
 // How the cache is found: `warm` says that it was used.
 fn start_named(warm: bool) -> Start
@@ -389,6 +392,40 @@ pub extern "C" fn estimate_listing(
             0
         }
         Expansion::Refused(reason) => reason.number(),
+    }
+}
+
+// The nightly build; the report is written number by number.
+#[no_mangle]
+pub extern "C" fn estimate_nightly(
+    numbers: &[u32],
+    allowance: u64,
+    rows: &mut [u64],
+    work: &mut [u64],
+    accepted: &mut u64,
+    text: &mut u64,
+    ways: &mut u64,
+    limit: &mut u64,
+    tracked: &mut u64,
+    accesses: &mut u64,
+    graph: &mut u64,
+    aside: &mut u64,
+) -> u64
+    ensures { λ r. ⌜ record { number = r; report = record { accepted = now (accepted .exit); text = now (text .exit); ways = now (ways .exit); limit = now (limit .exit); tracked = now (tracked .exit); accesses = now (accesses .exit); graph = now (graph .exit); aside = now (aside .exit) }; rows = now (rows .exit); work = now (work .exit) } ≡ nightlyGiven (afterBuild (now (numbers .entry)) allowance (now (rows .entry)) (now (work .entry))) (record { accepted = now (accepted .entry); text = now (text .entry); ways = now (ways .entry); limit = now (limit .entry); tracked = now (tracked .entry); accesses = now (accesses .entry); graph = now (graph .entry); aside = now (aside .entry) }) ⌝ }
+{
+    match build(numbers, allowance, rows, work) {
+        Built::Report(found) => {
+            *accepted = found.accepted;
+            *text = found.text;
+            *ways = found.ways;
+            *limit = found.limit;
+            *tracked = found.tracked;
+            *accesses = found.accesses;
+            *graph = found.graph;
+            *aside = found.aside;
+            0
+        }
+        Built::Refused(reason) => reason.number(),
     }
 }
 

@@ -158,6 +158,7 @@ pub enum Refusal {
     ListingRoom,
     Listing,
     Expansion,
+    Nightly,
 }
 
 impl Refusal {
@@ -183,6 +184,7 @@ impl Refusal {
             Refusal::ListingRoom => 22,
             Refusal::Listing => 14,
             Refusal::Expansion => 15,
+            Refusal::Nightly => 20,
         }
     }
 }

@@ -28,7 +28,7 @@ use Rattle.listing.proofs.Shows.{flat-long}
 use Rattle.listing.proofs.Calls.{Checked, checked, is-listing, graph-nodes, graph-accesses, graph-edges}
 use Rattle.listing.proofs.Blocks.{accesses-listed, lengths-most, edges-most}
 use Rattle.text.specs.Choices.{plain}
-use Rattle.text.specs.Parts.{Part, counted, trackedPart, runsPart, accessesPart, edgesPart, complete, inputFrom}
+use Rattle.parts.specs.Parts.{Part, counted, trackedPart, runsPart, accessesPart, edgesPart, complete, inputFrom}
 use Rattle.text.specs.Traces.{gap, numbersLine}
 use Rattle.text.specs.Writing.{decimal}
 use Rattle.text.specs.Listings.{tokensPart, listingComplete, inputLines, inputText, ofTokens, listingOfNumbers, listingOfText}

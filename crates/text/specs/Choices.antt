@@ -10,15 +10,12 @@ use Rattle.rules.specs.declared.Start.{Start}
 use Rattle.rules.specs.declared.Start.the-variants.{Cold as cold, Warm as warm}
 use Rattle.rules.specs.Answers.{numberOf}
 use Rattle.rules.specs.Input.{Input}
-use Rattle.text.specs.declared.working.Choice.{Choice}
+use Rattle.parts.specs.declared.Choice.{Choice}
+pub use Rattle.parts.specs.Parts.{plain}
 use Rattle.text.specs.declared.working.Form.{Form}
 use Rattle.text.specs.declared.working.Form.the-variants.{Plain, Chosen}
 use Rattle.text.specs.Writing.{refusedLine}
 use Rattle.text.specs.Printed.{ofNumbers, numbersWorked}
-
--- document 01's: one set, the first revision, found empty
-abbrev pub plain : Choice
-plain = record { sets = 1; revision = 1; start = cold }
 
 -- the start that a number stands for
 abbrev pub startOf : ℕ → Start

@@ -1,7 +1,3 @@
--- What the numbers mean, in order
-pub mod Parts
--- where the parts end
-pub mod Places
 -- Numbers and lines as text
 pub mod Writing
 -- how they are put into a room

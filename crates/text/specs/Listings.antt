@@ -11,7 +11,7 @@ use Rattle.listing.specs.Reading.{listingOf, listingIn}
 use Rattle.listing.specs.Expansion.{Graph, graphOf, lengths, accesses, flat}
 use Rattle.listing.specs.Call.{listingReasons}
 use Rattle.reading.specs.Reading.{wellFormed, numbersIn}
-use Rattle.text.specs.Parts.{Part, counted, trackedPart}
+use Rattle.parts.specs.Parts.{Part, counted, trackedPart}
 use Rattle.text.specs.Printed.{told, accepts}
 use Rattle.text.specs.Traces.{numbersLine}
 use Rattle.text.specs.Writing.{refusedLine}

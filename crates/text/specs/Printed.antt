@@ -10,8 +10,8 @@ use Rattle.rules.specs.Answers.{numberOf}
 use Rattle.rules.specs.Input.{Input}
 use Rattle.rules.specs.Refusals.{verdict}
 use Rattle.reading.specs.Reading.{wellFormed, numbersIn}
-use Rattle.text.specs.declared.working.Choice.{Choice}
-use Rattle.text.specs.Parts.{complete, inputFrom}
+use Rattle.parts.specs.declared.Choice.{Choice}
+use Rattle.parts.specs.Parts.{complete, inputFrom}
 use Rattle.text.specs.Writing.{refusedLine}
 
 -- the text of an accepted input, or the line of its refusal

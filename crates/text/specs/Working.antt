@@ -3,37 +3,23 @@ use mathlib.Core.Path.{_≡_}
 use mathlib.Core.Bool.{Bool, true}
 use mathlib.Core.List.{List, _++_}
 use Prim.Native.Nat.{ℕ, suc, _≤_}
-use lib.ListN.{length, take, replicate}
-use Rattle.rules.specs.declared.Outcome.{Outcome}
-use Rattle.rules.specs.declared.Outcome.the-variants.{Refused as RefusedOutcome}
-use Rattle.rules.specs.declared.Refusal.{Refusal}
+use lib.ListN.{length, take}
 use Rattle.rules.specs.declared.State.{State}
 use Rattle.rules.specs.declared.Units.{Units}
 use Rattle.rules.specs.declared.Verdict.the-variants.{Accepted}
-use Rattle.rules.specs.Answers.{outcomeSays}
-use Rattle.rules.specs.Input.{Input}
-use Rattle.rules.specs.Graph.{finished}
 use Rattle.rules.specs.Questions.{isTable, largest, spread}
-use Rattle.rules.specs.Refusals.{verdict, outcome}
+use Rattle.rules.specs.Refusals.{verdict}
 use Rattle.rules.specs.Cycles.{cores}
 use Rattle.rules.specs.Longest.{longest}
 use Rattle.words.specs.Tables.{tableOf}
-use Rattle.text.specs.declared.working.Choice.{Choice}
-use Rattle.text.specs.Parts.{inputFrom}
+use Rattle.parts.specs.declared.Choice.{Choice}
+use Rattle.parts.specs.Parts.{complete, inputFrom}
 use Rattle.text.specs.Writing.{headLine, linesBelow, curveLines}
 use Rattle.text.specs.Put.{Put}
 use Rattle.text.specs.Printed.{ofNumbers}
 use Rattle.text.specs.Curve.{curve}
 use Rattle.text.specs.Cycles.{longestLine, coreLines, inCycles}
 use Rattle.text.specs.Rooms.{Rooms, zeroIf}
-
--- the graph call is made, with the rooms rs and ws before it and rs′ and ws′ after it: its answer; a finished table stands at the front of the result room, and the
--- working room is zero; a refusal leaves both as they were
-pub record Called (i : Input) (r : Outcome) (rs ws rs′ ws′ : List ℕ) : Type 0 where
-  pub answer : r ≡ outcome i
-  pub table : outcomeSays r .number ≡ 0 → take (outcomeSays r .states) (tableOf rs′) ≡ finished i .table
-  pub worked : outcomeSays r .number ≡ 0 → ws′ ≡ replicate (length ws) 0
-  pub refused : (why : Refusal) → r ≡ RefusedOutcome why → (rs′ ≡ rs) × (ws′ ≡ ws)
 
 -- the spread of the table T stands at the front of the counts, n numbers
 pub record Counted (T : List State) (n : ℕ) (counts : List ℕ) : Type 0 where
@@ -47,9 +33,10 @@ pub record Wrote (worked : Bool) (text : List ℕ) (r : ℕ) (a b : Rooms) : Typ
   pub work : b .work ≡ zeroIf worked (a .work)
   pub counts : b .counts ≡ zeroIf worked (a .counts)
 
--- the call left a finished table of so many states in the result room, with so many units set aside: the input is accepted, the longest path covers
+-- the call left a finished table of so many states in the result room, with so many units set aside: the numbers are complete, the input is accepted, the longest path covers
 -- every miss count of the table, and this is what is printed
 pub record Finishes (ch : Choice) (ns result : List ℕ) (states : ℕ) (aside : Units) : Type 0 where
+  pub whole : complete ns ≡ true
   pub accepted : verdict (inputFrom ch ns) ≡ Accepted
   pub table : isTable (take states (tableOf result)) ≡ true
   pub covered : largest (take states (tableOf result)) ≤ longest (inputFrom ch ns)

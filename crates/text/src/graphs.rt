@@ -1,11 +1,11 @@
 // From the text of a listing to the curve program's input: the listing expanded, and the lines that its graph gives.
-use crate::parts::end_of;
 use crate::traces::put_accesses;
 use crate::traces::put_entry;
 use crate::writing::put_refused;
 use basics::clear_numbers;
 use listing::Expansion;
 use listing::expand;
+use parts::end_of;
 use reading::Read;
 use reading::read_numbers;
 ghost use mathlib.Core.Path.{_≡_};

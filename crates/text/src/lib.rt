@@ -18,7 +18,6 @@ ghost use Rattle.text.specs.Wanted.{wantedAfter, wantedAfterText};
 
 mod cores;
 mod graphs;
-mod parts;
 mod traces;
 mod working;
 mod writing;

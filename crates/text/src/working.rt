@@ -1,16 +1,15 @@
 // From the numbers to the text: the graph call, the questions, and the lines that they give.
 use crate::cores::put_cores;
-use crate::parts::end_of;
 use crate::writing::put_head;
 use crate::writing::put_lines;
 use crate::writing::put_longest;
 use crate::writing::put_refused;
-use estimate::analyse;
-use longest::longest_path;
+use parts::Choice;
+use parts::analyse_numbers;
+use parts::longest_of_numbers;
 use questions::spread_in;
 use reading::Read;
 use reading::read_numbers;
-use rules::Cache;
 use rules::Count;
 use rules::Length;
 use rules::Outcome;
@@ -28,15 +27,14 @@ ghost use Rattle.rules.specs.Refusals.{verdict};
 ghost use Rattle.rules.specs.Cycles.{cores};
 ghost use Rattle.rules.specs.Longest.{longest};
 ghost use Rattle.words.specs.Tables.{tableOf};
-ghost use Rattle.text.specs.Parts.{inputFrom};
-ghost use Rattle.text.specs.Places.{Ends};
+ghost use Rattle.parts.specs.Parts.{complete, inputFrom};
 ghost use Rattle.text.specs.Writing.{headLine, curveLines, linesBelow};
 ghost use Rattle.text.specs.Printed.{ofNumbers, ofText, numbersWorked, textWorked};
 ghost use Rattle.text.specs.Cycles.{longestLine, coreLines};
 ghost use Rattle.text.specs.Choices.{startOf, ofChosen, chosenWorked, ofForm, formWorked};
 ghost use Rattle.text.specs.Put.{Put};
 ghost use Rattle.text.specs.Rooms.{longEnough};
-ghost use Rattle.text.specs.Working.{Called, Counted, Finishes, Wrote};
+ghost use Rattle.text.specs.Working.{Counted, Finishes, Wrote};
 ghost use Rattle.text.specs.Wanted.{wantedText, wantedBytes};
 
 // Which text is wanted: the curve, or the curves in cycles.
@@ -45,75 +43,18 @@ pub(crate) enum Wanted {
     Cycles,
 }
 
-// What is chosen of a cache beside its ways: its sets, its revision, and how it is found.
-pub(crate) struct Choice {
-    sets: u32,
-    revision: u32,
-    start: Start,
-}
-
 // The form of a text's numbers: the curve's alone, or a set count, a revision and a start before them.
 pub(crate) enum Form {
     Plain,
     Chosen,
 }
 
-// The graph call for numbers that are complete: the tracked blocks end at `first`, the run lengths at `second`, the accesses at `third`.
-pub(crate) fn call(
-    choice: Choice,
-    numbers: &[u32],
-    first: usize,
-    second: usize,
-    third: usize,
-    result: &mut [u64],
-    work: &mut [u64],
-) -> Outcome
-    requires { ⌜ Ends (now numbers) first second third × (3 ≤ first) × (first < second) × (second < third) × (third < length (now numbers)) × (320 ≤ length (now result)) × (25920 ≤ length (now work)) ⌝ }
-    ensures { λ r. ⌜ Called (inputFrom choice (now (numbers .entry))) r (now (result .entry)) (now (work .entry)) (now (result .exit)) (now (work .exit)) ⌝ }
-{
-    let start = choice.start;
-    analyse(
-        Cache {
-            sets: choice.sets,
-            ways: numbers[0],
-            revision: choice.revision,
-            start,
-        },
-        numbers[1],
-        &numbers[3..first],
-        &numbers[first + 1..second],
-        &numbers[second + 1..third],
-        &numbers[third + 1..],
-        result,
-        work,
-    )
-}
-
-// The accesses of the longest path, for the same numbers, where the graph call is accepted.
-pub(crate) fn longest_of(
-    choice: Choice,
-    numbers: &[u32],
-    first: usize,
-    second: usize,
-    third: usize,
-) -> u64
-    requires { ⌜ Ends (now numbers) first second third × (3 ≤ first) × (first < second) × (second < third) × (third < length (now numbers)) × (verdict (inputFrom choice (now numbers)) ≡ Accepted) ⌝ }
+// The accesses of the longest path, where the graph call is accepted.
+fn longest_of(choice: Choice, numbers: &[u32]) -> u64
+    requires { ⌜ (complete (now numbers) ≡ true) × (verdict (inputFrom choice (now numbers)) ≡ Accepted) ⌝ }
     ensures { λ r. ⌜ r ≡ longest (inputFrom choice (now (numbers .entry))) ⌝ }
 {
-    let start = choice.start;
-    match longest_path(
-        Cache {
-            sets: choice.sets,
-            ways: numbers[0],
-            revision: choice.revision,
-            start,
-        },
-        numbers[1],
-        &numbers[3..first],
-        &numbers[first + 1..second],
-        &numbers[second + 1..third],
-        &numbers[third + 1..],
-    ) {
+    match longest_of_numbers(choice, numbers) {
         Length::Accesses(n) => n,
         Length::Refused(why) => 0,
     }
@@ -168,22 +109,19 @@ pub(crate) fn put_wanted(
     wanted: Wanted,
     choice: Choice,
     numbers: &[u32],
-    first: usize,
-    second: usize,
-    third: usize,
     states: usize,
     aside: Units,
     result: &[u64],
     counts: &mut [u64],
     output: &mut [u8],
 ) -> usize
-    requires { ⌜ Ends (now numbers) first second third × (3 ≤ first) × (first < second) × (second < third) × (third < length (now numbers)) × Finishes choice (now numbers) (now result) states aside × (4097 ≤ length (now counts)) × (wantedBytes wanted ≤ length (now output)) ⌝ }
+    requires { ⌜ Finishes choice (now numbers) (now result) states aside × (4097 ≤ length (now counts)) × (wantedBytes wanted ≤ length (now output)) ⌝ }
     ensures { λ r. ⌜ Put (ofNumbers (wantedText wanted) choice (now (numbers .entry))) 0 r (now (output .entry)) (now (output .exit)) ⌝ }
 {
     match wanted {
         Wanted::Misses => put_curve(result, states, aside, counts, output),
         Wanted::Cycles => {
-            let longest = longest_of(choice, numbers, first, second, third);
+            let longest = longest_of(choice, numbers);
             put_cycles(result, states, aside, longest, counts, output)
         }
     }
@@ -194,25 +132,19 @@ pub(crate) fn put_finished(
     wanted: Wanted,
     choice: Choice,
     numbers: &[u32],
-    first: usize,
-    second: usize,
-    third: usize,
     states: usize,
     aside: Units,
     result: &mut [u64],
     counts: &mut [u64],
     output: &mut [u8],
 ) -> usize
-    requires { ⌜ Ends (now numbers) first second third × (3 ≤ first) × (first < second) × (second < third) × (third < length (now numbers)) × Finishes choice (now numbers) (now result) states aside × (4097 ≤ length (now counts)) × (wantedBytes wanted ≤ length (now output)) ⌝ }
+    requires { ⌜ Finishes choice (now numbers) (now result) states aside × (4097 ≤ length (now counts)) × (wantedBytes wanted ≤ length (now output)) ⌝ }
     ensures { λ r. ⌜ Put (ofNumbers (wantedText wanted) choice (now (numbers .entry))) 0 r (now (output .entry)) (now (output .exit)) × (now (result .exit) ≡ replicate (length (now (result .entry))) 0) × (now (counts .exit) ≡ replicate (length (now (counts .entry))) 0) ⌝ }
 {
     let end = put_wanted(
         wanted,
         choice,
         numbers,
-        first,
-        second,
-        third,
         states,
         aside,
         result,
@@ -237,21 +169,12 @@ pub(crate) fn put_numbers(
     requires { ⌜ (320 ≤ length (now result)) × (25920 ≤ length (now work)) × (4097 ≤ length (now counts)) × (wantedBytes wanted ≤ length (now output)) ⌝ }
     ensures { λ r. ⌜ Wrote (numbersWorked choice (now (numbers .entry))) (ofNumbers (wantedText wanted) choice (now (numbers .entry))) r (record { result = now (result .entry); work = now (work .entry); counts = now (counts .entry); output = now (output .entry) }) (record { result = now (result .exit); work = now (work .exit); counts = now (counts .exit); output = now (output .exit) }) ⌝ }
 {
-    let first = end_of(numbers, 2, 1);
-    let second = end_of(numbers, first, 1);
-    let third = end_of(numbers, second, 1);
-    if end_of(numbers, third, 2) != numbers.len() {
-        return put_refused(output, 9);
-    }
-    match call(choice, numbers, first, second, third, result, work) {
+    match analyse_numbers(choice, numbers, result, work) {
         Outcome::Refused(why) => put_refused(output, why.number()),
         Outcome::Finished(states, aside) => put_finished(
             wanted,
             choice,
             numbers,
-            first,
-            second,
-            third,
             states,
             aside,
             result,

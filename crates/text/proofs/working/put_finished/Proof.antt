@@ -10,7 +10,7 @@ put-wanted-requires c κs = c .before .before .before .before .before .before .b
 returns : tie.Need-returns
 returns c =
     let put = c .before .before .before .before .before .before .before .before .before .before .before .before .put-wanted in
-    (put .ensures, c .before .before .before .before .before .before .clear .ensures, cleared _ (put .last .1 .1 .1 .1 .1 .1 .1 .1 .1 .0) _ (c .before .before .clear2 .ensures) (put .kept .1 .1 .1 .1 .1 .1 .1 .1 .1 .0))
+    (put .ensures, c .before .before .before .before .before .before .clear .ensures, cleared _ (put .last .1 .1 .1 .1 .1 .1 .0) _ (c .before .before .clear2 .ensures) (put .kept .1 .1 .1 .1 .1 .1 .0))
 
 pub put-finished-spec : {M : Type 1} → statement M
 put-finished-spec =

@@ -1,12 +1,13 @@
--- `end_of` meets its contract: each return is one case of the definition. No sum wraps, since a number has 32 bits and a list lies in memory.
+-- `end_of` meets its contract: each return is one case of the definition. No sum wraps, since a number has 32 bits, a width 8, and a list lies in memory.
+use Prim.Native.Nat.{_≤_}
 use native.Mathlib.Nat.{mul-le-mul-left}
 use native.Mathlib.Omega.{arith}
 use borrow.Author.Needs.{needs}
 use denote.Ref.{now}
 use lib.ListN.{getD}
-use Rattle.text.proofs.Places.{past-list, cut-short, ends-within}
-use Rattle.text.proofs.parts.end_of.Statement.{statement}
-use Rattle.text.proofs.parts.end_of.Tie as tie
+use Rattle.parts.proofs.Places.{past-list, cut-short, ends-within}
+use Rattle.parts.proofs.end_of.Statement.{statement}
+use Rattle.parts.proofs.end_of.Tie as tie
 
 -- a number has 32 bits
 cast-end : tie.Need-cast-end
@@ -15,12 +16,14 @@ cast-end c = omega (arith, c .shared-slice-known .given (c .before .before .args
 mul-end : tie.Need-mul-end-2
 mul-end c =
     let a = c .before .before .args in
-    omega (arith, c .shared-slice-known .given (a .at), mul-le-mul-left (getD (now (a .numbers)) (a .at) 0) (c .before .before .pre))
+    let narrow : a .width ≤ 255 = omega (arith, c .before .before .fits) in
+    omega (arith, c .shared-slice-known .given (a .at), mul-le-mul-left (getD (now (a .numbers)) (a .at) 0) narrow)
 
 add-end : tie.Need-add-end-2
 add-end c =
     let a = c .before .before .args in
-    omega (arith, c .shared-slice-known .given (a .at), mul-le-mul-left (getD (now (a .numbers)) (a .at) 0) (c .before .before .pre))
+    let narrow : a .width ≤ 255 = omega (arith, c .before .before .fits) in
+    omega (arith, c .shared-slice-known .given (a .at), mul-le-mul-left (getD (now (a .numbers)) (a .at) 0) narrow)
 
 returns : tie.Need-returns
 returns c = let a = c .before .args in past-list (a .width) (now (a .numbers)) (a .at) (c .if1 .taken)

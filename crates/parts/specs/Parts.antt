@@ -4,8 +4,10 @@ use mathlib.Core.List.{List, [], _∷_}
 use Prim.Native.Nat.{ℕ, _*_}
 use lib.Dec.{eqb, leb}
 use lib.ListN.{length, getD, take, drop}
+use Rattle.rules.specs.declared.Cache.{Cache}
+use Rattle.rules.specs.declared.Start.the-variants.{Cold as cold}
 use Rattle.rules.specs.Input.{Input, cache, inputOf}
-use Rattle.text.specs.declared.working.Choice.{Choice}
+use Rattle.parts.specs.declared.Choice.{Choice}
 
 -- some numbers from the front of a list: whether there were enough, they, and what is left
 pub record Part : Type 0 where
@@ -40,7 +42,15 @@ complete ns =
     leb 2 (length ns) && trackedPart ns .enough && runsPart ns .enough && accessesPart ns .enough && edgesPart ns .enough
     && eqb (length (edgesPart ns .rest)) 0
 
--- what a graph call is handed; the cache is as chosen beside its ways
+-- what is chosen of document 01's cache: one set, the first revision, found empty
+abbrev pub plain : Choice
+plain = record { sets = 1; revision = 1; start = cold }
+
+-- the cache, as chosen beside its ways
+abbrev pub cacheFrom : Choice → List ℕ → Cache
+cacheFrom ch ns = cache (ch .sets) (getD ns 0 0) (ch .revision) (ch .start)
+
+-- what a graph call is handed
 unfoldable pub inputFrom : Choice → List ℕ → Input
 inputFrom ch ns =
-    inputOf (cache (ch .sets) (getD ns 0 0) (ch .revision) (ch .start)) (getD ns 1 0) (trackedPart ns .numbers) (runsPart ns .numbers) (accessesPart ns .numbers) (edgesPart ns .numbers)
+    inputOf (cacheFrom ch ns) (getD ns 1 0) (trackedPart ns .numbers) (runsPart ns .numbers) (accessesPart ns .numbers) (edgesPart ns .numbers)

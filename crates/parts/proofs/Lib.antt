@@ -1,0 +1,4 @@
+-- Where the parts of a list of numbers end
+pub mod Places
+-- what the graph call and the longest path answer
+pub mod Calls

@@ -1,0 +1,6 @@
+-- What the numbers mean, in order
+pub mod Parts
+-- where the parts end
+pub mod Places
+-- the graph call and the longest path of what they mean
+pub mod Call

@@ -1,0 +1,118 @@
+// What a list of numbers in the curve's order means: where its parts end, and the graph call and the longest path of what it means.
+use estimate::analyse;
+use longest::longest_path;
+use rules::Cache;
+use rules::Length;
+use rules::Outcome;
+use rules::Refusal;
+use rules::Start;
+ghost use mathlib.Core.Path.{_≡_};
+ghost use Prim.Native.Nat.{_≤_, _<_};
+ghost use lib.ListN.{length};
+ghost use Rattle.parts.specs.Places.{endOf, Ends};
+ghost use Rattle.parts.specs.Call.{numbersLeft, numbersLongest};
+
+// What is chosen of a cache beside its ways: its sets, its revision, and how it is found.
+pub struct Choice {
+    pub sets: u32,
+    pub revision: u32,
+    pub start: Start,
+}
+
+// Where the part ends whose count stands at place `at`, with `width` numbers for each that it counts; past the end where it is cut short.
+pub fn end_of(numbers: &[u32], at: usize, width: u8) -> usize
+    ensures { λ r. ⌜ r ≡ endOf width (now (numbers .entry)) at ⌝ }
+{
+    if numbers.len() <= at {
+        return numbers.len() + 1;
+    }
+    let end = at + 1 + numbers[at] as usize * width as usize;
+    if numbers.len() < end {
+        return numbers.len() + 1;
+    }
+    end
+}
+
+// The graph call for numbers that are complete: the tracked blocks end at `first`, the run lengths at `second`, the accesses at `third`.
+fn call(
+    choice: Choice,
+    numbers: &[u32],
+    first: usize,
+    second: usize,
+    third: usize,
+    result: &mut [u64],
+    work: &mut [u64],
+) -> Outcome
+    requires { ⌜ Ends (now numbers) first second third × (3 ≤ first) × (first < second) × (second < third) × (third < length (now numbers)) ⌝ }
+    ensures { λ r. ⌜ record { answer = r; result = now (result .exit); work = now (work .exit) } ≡ numbersLeft choice (now (numbers .entry)) (now (result .entry)) (now (work .entry)) ⌝ }
+{
+    let start = choice.start;
+    analyse(
+        Cache {
+            sets: choice.sets,
+            ways: numbers[0],
+            revision: choice.revision,
+            start,
+        },
+        numbers[1],
+        &numbers[3..first],
+        &numbers[first + 1..second],
+        &numbers[second + 1..third],
+        &numbers[third + 1..],
+        result,
+        work,
+    )
+}
+
+// The longest path for the same numbers.
+fn longest_in(choice: Choice, numbers: &[u32], first: usize, second: usize, third: usize) -> Length
+    requires { ⌜ Ends (now numbers) first second third × (3 ≤ first) × (first < second) × (second < third) × (third < length (now numbers)) ⌝ }
+    ensures { λ r. ⌜ r ≡ numbersLongest choice (now (numbers .entry)) ⌝ }
+{
+    let start = choice.start;
+    longest_path(
+        Cache {
+            sets: choice.sets,
+            ways: numbers[0],
+            revision: choice.revision,
+            start,
+        },
+        numbers[1],
+        &numbers[3..first],
+        &numbers[first + 1..second],
+        &numbers[second + 1..third],
+        &numbers[third + 1..],
+    )
+}
+
+// The graph call for a list of numbers: 9 where one is missing or left over, which changes nothing, and otherwise as `analyse`.
+pub fn analyse_numbers(
+    choice: Choice,
+    numbers: &[u32],
+    result: &mut [u64],
+    work: &mut [u64],
+) -> Outcome
+    ensures { λ r. ⌜ record { answer = r; result = now (result .exit); work = now (work .exit) } ≡ numbersLeft choice (now (numbers .entry)) (now (result .entry)) (now (work .entry)) ⌝ }
+{
+    let first = end_of(numbers, 2, 1);
+    let second = end_of(numbers, first, 1);
+    let third = end_of(numbers, second, 1);
+    if end_of(numbers, third, 2) != numbers.len() {
+        return Outcome::Refused(Refusal::Text);
+    }
+    call(choice, numbers, first, second, third, result, work)
+}
+
+// The longest path for a list of numbers: 9 where one is missing or left over, and otherwise as `longest_path`.
+pub fn longest_of_numbers(choice: Choice, numbers: &[u32]) -> Length
+    ensures { λ r. ⌜ r ≡ numbersLongest choice (now (numbers .entry)) ⌝ }
+{
+    let first = end_of(numbers, 2, 1);
+    let second = end_of(numbers, first, 1);
+    let third = end_of(numbers, second, 1);
+    let last = end_of(numbers, third, 2);
+    if last != numbers.len() {
+        return Length::Refused(Refusal::Text);
+    }
+    longest_in(choice, numbers, first, second, third)
+}
