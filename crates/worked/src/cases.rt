@@ -3,6 +3,7 @@ use crate::graph::graph_line;
 use crate::lines::find;
 use crate::lines::next_line;
 use crate::lines::read_fields;
+use crate::listings::listing_line;
 use crate::nights::night_line;
 use crate::quick::quick_line;
 use crate::report::Report;
@@ -26,6 +27,7 @@ fn of_numbers(kind: u8, name: &[u8], line: &[u64], report: Report) -> Report {
         b'l' => ladder_line(name, line, report),
         b'i' => quick_line(name, line, report),
         b'o' => night_line(name, line, report),
+        b'c' => listing_line(name, line, report),
         _ => report,
     }
 }

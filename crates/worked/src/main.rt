@@ -4,7 +4,6 @@
 // and the questions in cycles (9/13) are asked of the same graphs and tables, and of some more. Traces are written, read and judged
 // by hand (7/13), and the quick question is asked of rows of any numbers (5/13). Listings are expanded (8/13). Lists of graphs are judged in one nightly build (13/13). The cases are read from standard input: the file `stdin` has them, a line each.
 use crate::cases::all_cases;
-use crate::listings::all_listings;
 use crate::numbers::say;
 use crate::report::Report;
 
@@ -41,7 +40,7 @@ fn main() {
     };
     let mut text: [u8; 65536] = [0; 65536];
     let n = io::read_full(0, &mut text);
-    let all = all_listings(of_text(&text[..n], nothing));
+    let all = of_text(&text[..n], nothing);
     say(b"comparisons ", all.comparisons);
     say(b"failed ", all.failed);
 }

@@ -6,10 +6,10 @@ use Rattle.worked.proofs.listings.holds.Statement.{statement}
 use Rattle.worked.proofs.listings.holds.Tie as tie
 
 abbrev Inv-loop : tie.InvT-loop
-Inv-loop room numbers rest i₀ i = i ≤ length room
+Inv-loop line field room rest i₀ i = i ≤ length room
 
 abbrev μ-loop : tie.MeasureT-loop
-μ-loop room numbers rest i₀ i = length room - i
+μ-loop line field room rest i₀ i = length room - i
 
 pub holds-spec : {M : Type 1} → statement M
-holds-spec = tie.close (tie.spec Inv-loop μ-loop (λ c. search needs) (λ c. search needs) (λ c. search needs) (λ c. search needs) (λ c κs. search needs) (λ c. search needs) (λ c. search needs) (λ c. search needs) (λ c. search needs) (λ c. search needs))
+holds-spec = tie.close (tie.spec Inv-loop μ-loop (λ c κs. search needs) (λ c. search needs) (λ c. search needs) (λ c. search needs) (λ c. search needs) (λ c κs. search needs) (λ c. search needs) (λ c. search needs) (λ c. search needs) (λ c. search needs) (λ c. search needs))
