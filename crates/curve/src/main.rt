@@ -1,7 +1,7 @@
 // The curve program: standard input to standard output. All that it does itself is to move bytes; what they are is `text`'s.
 use front::write_front;
-use text::Written;
 use text::curve_of_text;
+use writing::Written;
 
 // The curve of a text, in rooms of the sizes that are needed.
 fn write_curve(input: &[u8]) {

@@ -1,7 +1,7 @@
 // The program for curves in cycles: standard input to standard output. All that it does itself is to move bytes; what they are is `text`'s.
 use front::write_front;
-use text::Written;
 use text::cycles_of_text;
+use writing::Written;
 
 // The curves in cycles of a text go to standard output, by way of `output`; the other rooms have the sizes that are needed.
 fn write_cycles(input: &[u8], output: &mut [u8]) {

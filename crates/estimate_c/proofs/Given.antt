@@ -14,7 +14,7 @@ use Rattle.recorder.specs.Calls.{ReadLeft, CountLeft}
 use Rattle.nightly.specs.declared.Built.{Built}
 use Rattle.nightly.specs.declared.Report.{Report}
 use Rattle.nightly.specs.Call.{BuildLeft}
-use Rattle.text.specs.declared.Written.{Written}
+use Rattle.writing.specs.declared.Written.{Written}
 use Rattle.text.specs.Rooms.{Rooms, NumbersWritten, TextWritten}
 use Rattle.estimate_c.specs.Given.{ValueGiven, outcomeGiven, graphGiven, expansionGiven, listingGiven, builtGiven, nightlyGiven, countGiven, spreadGiven, readingGiven, readGiven, countedGiven, bytesOf, numbersGiven, textGiven}
 

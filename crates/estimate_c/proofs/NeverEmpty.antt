@@ -12,10 +12,12 @@ use Rattle.rules.specs.Answers.{numberOf}
 use Rattle.rules.specs.Input.{Input}
 use Rattle.rules.specs.Refusals.{verdict}
 use Rattle.parts.specs.Parts.{complete, inputFrom}
-use Rattle.text.specs.Choices.{plain}
 use Rattle.reading.specs.Reading.{wellFormed, numbersIn}
-use Rattle.text.specs.Writing.{refusedLine, headWords}
-use Rattle.text.specs.Printed.{told, ofInput, ofNumbers, ofText}
+use Rattle.writing.specs.Writing.{refusedLine}
+use Rattle.writing.specs.Told.{told, ofText}
+use Rattle.text.specs.Lines.{headWords}
+use Rattle.text.specs.Choices.{plain}
+use Rattle.text.specs.Printed.{ofInput, ofNumbers}
 use Rattle.text.specs.Curve.{curve, curveOfNumbers, curveOfText}
 use Rattle.text.specs.Cycles.{longestLine, inCycles, cyclesOfNumbers, cyclesOfText}
 

@@ -32,8 +32,8 @@ use Rattle.nightly.specs.declared.Built.{Built}
 use Rattle.nightly.specs.declared.Built.the-variants.{Report as ReportOf, Refused as RefusedBuild}
 use Rattle.nightly.specs.declared.Report.{Report}
 use Rattle.nightly.specs.Call.{BuildLeft}
-use Rattle.text.specs.declared.Written.{Written}
-use Rattle.text.specs.declared.Written.the-variants.{Bytes, NoRoom}
+use Rattle.writing.specs.declared.Written.{Written}
+use Rattle.writing.specs.declared.Written.the-variants.{Bytes, NoRoom}
 use Rattle.text.specs.Rooms.{Rooms, NumbersWritten, TextWritten}
 
 -- ---- the cache that a call names

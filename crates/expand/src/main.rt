@@ -1,7 +1,7 @@
-// The listing program: standard input to standard output. All that it does itself is to move bytes; what they are is `text`'s.
+// The listing program: standard input to standard output. All that it does itself is to move bytes; what they are is `graphs`'s.
 use front::write_front;
-use text::Written;
-use text::graph_of_text;
+use graphs::graph_of_text;
+use writing::Written;
 
 // The curve program's input for a text, in rooms of the sizes that are needed.
 fn write_graph(input: &[u8]) {

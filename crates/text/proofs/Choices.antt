@@ -11,7 +11,7 @@ use lib.Seq.{take-all}
 use Rattle.rules.specs.declared.Start.{Start}
 use Rattle.rules.specs.Input.{Input}
 use Rattle.parts.specs.declared.Choice.{Choice}
-use Rattle.text.specs.Writing.{refusedLine}
+use Rattle.writing.specs.Writing.{refusedLine}
 use Rattle.text.specs.Printed.{ofNumbers, numbersWorked}
 use Rattle.text.specs.Choices.{startOf, chooses, choiceIn, ofChosen, chosenWorked}
 

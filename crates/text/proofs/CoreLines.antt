@@ -1,21 +1,20 @@
--- The lines of the cores, put one core behind the other: that no number in them wraps, how long they are, and what is put after some of them.
+-- The lines of the cores, put one core behind the other: that no number in them wraps, and what is put after some of them.
 use mathlib.Core.Path.{_≡_, sym, ap}
-use mathlib.Core.List.{List, [], _++_}
-use Prim.Native.Nat.{ℕ, zero, suc, _+_, _-_, _*_, _≤_, _<_}
-use native.Mathlib.Nat.{le-refl, le-of-lt, add-zero, mul-le-mul}
+use mathlib.Core.List.{List, _++_}
+use Prim.Native.Nat.{ℕ, _+_, _-_, _*_, _≤_, _<_}
+use native.Mathlib.Nat.{le-of-lt, mul-le-mul}
 use native.Mathlib.Numerals.{add-one}
 use native.Mathlib.Omega.{arith}
-use lib.ListN.{length, length-append}
-use lib.Seq.{paste-zero}
+use lib.ListN.{length}
 use Rattle.rules.specs.declared.Core.{Core}
 use Rattle.rules.specs.Units.{whole}
 use Rattle.rules.specs.Cycles.{cores, coreAt}
 use Rattle.rules.proofs.Cycles.{miss-above-hit, small-cycles, hits-most}
-use Rattle.text.specs.Writing.{linesBelow}
+use Rattle.writing.specs.Put.{Put}
+use Rattle.writing.proofs.Putting.{put-is, put-none, put-then}
+use Rattle.text.specs.Lines.{linesBelow}
 use Rattle.text.specs.Cycles.{coreLine}
-use Rattle.text.specs.Put.{Put, countLines, coreCounts}
-use Rattle.text.proofs.Decimals.{decimal-long}
-use Rattle.text.proofs.Putting.{put-is, put-then, lines-long}
+use Rattle.text.specs.Counts.{countLines, coreCounts}
 
 -- ---- one core
 
@@ -37,41 +36,16 @@ module _ (k : ℕ) (known : k < 12) (L : ℕ) (path : L ≤ 4096) (c : Core) (is
   unfolding coreCounts
   core-put us at r o o₁ done = rw is at done
 
-pub core-line-long : (k : ℕ) (c : Core) → length (coreLine k c) ≤ 77
-unfolding coreLine
-core-line-long k c = simp (length-append) (omega (arith, decimal-long k, decimal-long (c .hit), decimal-long (c .miss)))
-
 -- ---- one behind the other
 
-module _ (L : ℕ) (us : List ℕ) (few : length us ≤ 4097) where
-  core-long : (k : ℕ) → length (coreCounts L us k) ≤ 258188
-  unfolding coreCounts
-  core-long k =
-      let c = coreAt k in
-      omega (
-        arith,
-        length-append (coreLine k c) (countLines (L * c .hit) (c .miss - c .hit) 0 whole us),
-        core-line-long k c,
-        lines-long (L * c .hit) (c .miss - c .hit) 0 whole us,
-      )
-
-  cores-long : (n : ℕ) → length (linesBelow (coreCounts L us) n) ≤ n * 258188
-  unfolding linesBelow
-  cores-long zero = le-refl 0
-  cores-long (suc n) =
-      omega (arith, length-append (linesBelow (coreCounts L us) n) (coreCounts L us n), cores-long n, core-long n)
-
+module _ (L : ℕ) (us : List ℕ) where
   pub cores-none : (at : ℕ) (o : List ℕ) → Put (linesBelow (coreCounts L us) 0) at at o o
   unfolding linesBelow
-  cores-none at o = record { ends = sym (add-zero at); room = paste-zero o at [] }
+  cores-none at o = put-none at o
 
   -- the lines of the cores before core n are put, and end at e
-  module _ (at n e : ℕ) (o o₁ : List ℕ) (so-far : Put (linesBelow (coreCounts L us) n) at e o o₁) (more : n < 12) (long : at + 12 * 258188 ≤ length o) where
-    pub core-fits : length o₁ ≡ length o → e + 258188 ≤ length o₁
-    core-fits same = omega (arith, so-far .ends, cores-long n)
-
-    pub cores-more : (e₂ : ℕ) (o₂ : List ℕ) → Put (coreCounts L us n) e e₂ o₁ o₂ → Put (linesBelow (coreCounts L us) (n + 1)) at e₂ o o₂
-    unfolding linesBelow
-    cores-more e₂ o₂ next =
-        put-is _ _ at e₂ o o₂ (put-then (linesBelow (coreCounts L us) n) at e o o₁ so-far (omega (arith, cores-long n)) (coreCounts L us n) e₂ o₂ next)
-        (ap (linesBelow (coreCounts L us)) (sym (add-one n)))
+  pub cores-more : (at n e : ℕ) (o o₁ : List ℕ) → Put (linesBelow (coreCounts L us) n) at e o o₁ → (e₂ : ℕ) (o₂ : List ℕ) → Put (coreCounts L us n) e e₂ o₁ o₂
+      → Put (linesBelow (coreCounts L us) (n + 1)) at e₂ o o₂
+  unfolding linesBelow
+  cores-more at n e o o₁ so-far e₂ o₂ next =
+      put-is _ _ at e₂ o o₂ (put-then (linesBelow (coreCounts L us) n) at e o o₁ so-far (coreCounts L us n) e₂ o₂ next) (ap (linesBelow (coreCounts L us)) (sym (add-one n)))

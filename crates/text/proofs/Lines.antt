@@ -23,9 +23,9 @@ use Rattle.rules.specs.Cycles.{cores, coreAt}
 use Rattle.rules.proofs.Refusals.{numbered}
 use Rattle.rules.proofs.Questions.{table-largest, length-counts, counts-at, counts-take, counts-above, table-total, spread-answered}
 use Rattle.rules.proofs.Cycles.{miss-above-hit, cycles-are, above-cycles-at}
-use Rattle.text.specs.Writing.{countLine, linesBelow, curveLine, curveLines}
+use Rattle.text.specs.Lines.{countLine, linesBelow, curveLine, curveLines}
 use Rattle.text.specs.Cycles.{coreLine, cycleLine, coreLines}
-use Rattle.text.specs.Put.{countLines, coreCounts}
+use Rattle.text.specs.Counts.{countLines, coreCounts}
 use Rattle.text.specs.Working.{Counted}
 
 -- the same lines for each number below n

@@ -1,15 +1,10 @@
--- What is printed, case by case: for a list of numbers, which is not complete, refused by the graph call, or accepted; and for a text, malformed or
--- read.
+-- What is printed for a list of numbers, case by case: it is not complete, refused by the graph call, or accepted.
 use mathlib.Core.Path.{_≡_, refl, sym, ap, ap₂, _∙_}
 use mathlib.Core.Bool.{Bool, true, false, cond, _&&_}
-use mathlib.Core.List.{List, [], _++_}
-use Prim.Native.Nat.{ℕ, _≤_}
+use mathlib.Core.List.{List, _++_}
+use Prim.Native.Nat.{ℕ}
 use native.Mathlib.Nat.{le-trans}
-use native.Mathlib.Omega.{arith}
-use borrow.Author.Tests.{leb-true}
-use lib.Dec.{leb}
-use lib.ListN.{length, take, replicate, length-map}
-use Rattle.basics.proofs.Bools.{and-right}
+use lib.ListN.{length, take, replicate}
 use Rattle.rules.specs.declared.State.{State}
 use Rattle.rules.specs.declared.Units.{Units}
 use Rattle.rules.specs.declared.Refusal.{Refusal}
@@ -27,17 +22,14 @@ use Rattle.rules.specs.Longest.{longest}
 use Rattle.rules.proofs.Refusals.{numbered, checked}
 use Rattle.rules.proofs.Longest.{longest-most, finished-within}
 use Rattle.words.specs.Tables.{tableOf}
-use Rattle.reading.specs.declared.Read.{Read}
-use Rattle.reading.specs.declared.Read.the-variants.{Numbers, Nothing}
-use Rattle.reading.specs.Reading.{valueFrom, wordsFrom, allNumbers, wellFormed, numbersIn}
-use Rattle.reading.specs.Call.{afterReading}
-use Rattle.reading.proofs.Calls.{malformed, well-formed, how-many, numbers-there}
 use Rattle.parts.specs.declared.Choice.{Choice}
 use Rattle.parts.specs.Parts.{complete, inputFrom}
 use Rattle.parts.specs.Call.{numbersOutcome}
 use Rattle.parts.proofs.Calls.{Called, worked-complete, worked-accepted, worked-says, worked-table, table-there}
-use Rattle.text.specs.Writing.{refusedLine, headLine, linesBelow, curveLines}
-use Rattle.text.specs.Printed.{told, accepts, ofInput, ofNumbers, ofText, numbersWorked, textWorked}
+use Rattle.writing.specs.Writing.{refusedLine}
+use Rattle.writing.specs.Told.{told, accepts}
+use Rattle.text.specs.Lines.{headLine, linesBelow, curveLines}
+use Rattle.text.specs.Printed.{ofInput, ofNumbers, numbersWorked}
 use Rattle.text.specs.Curve.{curve}
 use Rattle.text.specs.Cycles.{longestLine, coreLines, inCycles}
 use Rattle.text.specs.Working.{Finishes}
@@ -121,38 +113,3 @@ module _ (ch : Choice) (ns : List ℕ) (r : Outcome) (rs ws result work : List �
         cycles-are = λ L e. rw e
             (printed-accepted inCycles (λ n a T. longestLine n a (longest i) ++ linesBelow (coreLines (longest i) T) (length cores)) refl);
       }
-
--- ---- for a text
-
-module _ (text room : List ℕ) (long : 16384 ≤ length room) (r : Read) (room′ : List ℕ) (left : record { answer = r; room = room′ } ≡ afterReading text room) where
-  pub text-malformed : (of : List ℕ → List ℕ) → r ≡ Nothing → refusedLine 9 ≡ ofText of text
-  unfolding ofText
-  text-malformed of e = rw (malformed text room long r room′ left e)
-
-  pub malformed-unworked : (worked : List ℕ → Bool) → r ≡ Nothing → textWorked worked text ≡ false
-  unfolding textWorked
-  malformed-unworked worked e = rw (malformed text room long r room′ left e)
-
-  module _ (n : ℕ) (e : r ≡ Numbers n) where
-    -- as many as there are words, 16,384 at most
-    pub numbers-few : n ≤ 16384
-    unfolding wellFormed numbersIn
-    numbers-few =
-        let ws = wordsFrom [] text in
-        omega (
-          arith,
-          how-many text room long r room′ left n e,
-          length-map ws (valueFrom 0),
-          leb-true (length ws) 16384 (and-right (leb (length text) 65536 && allNumbers ws) (leb (length ws) 16384) (well-formed text room long r room′ left n e)),
-        )
-
-    pub numbers-long : n ≡ length (take n room′)
-    numbers-long = how-many text room long r room′ left n e ∙ sym (ap length (numbers-there text room long r room′ left n e))
-
-    pub text-read : (of : List ℕ → List ℕ) → of (take n room′) ≡ ofText of text
-    unfolding ofText
-    text-read of = rw (well-formed text room long r room′ left n e) (ap of (numbers-there text room long r room′ left n e))
-
-    pub read-worked : (worked : List ℕ → Bool) → worked (take n room′) ≡ textWorked worked text
-    unfolding textWorked
-    read-worked worked = rw (well-formed text room long r room′ left n e) (ap worked (numbers-there text room long r room′ left n e))

@@ -1,43 +1,31 @@
--- What a call leaves in its rooms: nothing is written where one is too short, and otherwise the text is put at the front; the others are zero where the numbers
+-- What a call leaves in its rooms: nothing is written where one is too short, and otherwise the text, which fits, is whole at the front; the others are zero where the numbers
 -- were worked, and as they were where they were refused.
-use mathlib.Core.Path.{_≡_, ap, ap₂, subst, _∙_}
+use mathlib.Core.Path.{_≡_, subst}
 use mathlib.Core.Bool.{Bool, true, false, _&&_}
-use mathlib.Core.List.{List, _++_}
+use mathlib.Core.List.{List}
 use Prim.Native.Nat.{ℕ, _≤_, _<_}
-use native.Mathlib.Nat.{le-refl, zero-add}
-use native.Mathlib.Omega.{arith}
+use native.Mathlib.Nat.{le-trans}
 use borrow.Author.Tests.{leb-true, le-leb, lt-leb}
 use lib.Dec.{leb}
-use lib.ListN.{length, drop, replicate}
-use lib.Seq.{take-all}
+use lib.ListN.{length, replicate}
 use Rattle.basics.proofs.Bools.{and-left, and-right}
-use Rattle.text.specs.declared.Written.the-variants.{Bytes, NoRoom}
-use Rattle.text.specs.Put.{Put}
-use Rattle.text.specs.declared.working.Wanted.{Wanted}
-use Rattle.text.specs.declared.working.Wanted.the-variants.{Misses, Cycles}
-use Rattle.text.specs.Wanted.{wantedBytes}
+use Rattle.writing.specs.declared.Written.the-variants.{Bytes, NoRoom}
+use Rattle.writing.specs.Put.{Put}
+use Rattle.writing.proofs.Putting.{put-whole}
 use Rattle.text.specs.Rooms.{Rooms, longEnough, enough, NumbersWritten, written, textWritten}
 use Rattle.text.specs.Working.{Wrote}
 
-pub rooms-long : (bytes a b c d : ℕ) → longEnough bytes a b c d ≡ true → (320 ≤ a) × (25920 ≤ b) × (4097 ≤ c) × (bytes ≤ d)
+pub rooms-long : (bytes a b c d : ℕ) → longEnough bytes a b c d ≡ true → (320 ≤ a) × (25920 ≤ b) × (4097 ≤ c)
 rooms-long bytes a b c d h =
     let three = and-left (leb 320 a && leb 25920 b && leb 4097 c) (leb bytes d) h in
     let two = and-left (leb 320 a && leb 25920 b) (leb 4097 c) three in (
       leb-true 320 a (and-left (leb 320 a) (leb 25920 b) two),
       leb-true 25920 b (and-right (leb 320 a) (leb 25920 b) two),
       leb-true 4097 c (and-right (leb 320 a && leb 25920 b) (leb 4097 c) three),
-      leb-true bytes d (and-right (leb 320 a && leb 25920 b && leb 4097 c) (leb bytes d) h),
     )
 
--- a refusal's line fits whatever is wanted
-pub line-fits : (w : Wanted) (n : ℕ) → wantedBytes w ≤ n → 63 ≤ n
-line-fits Misses n h = omega (arith, h)
-line-fits Cycles n h = omega (arith, h)
-
--- put at the front
-pub front-put : (bs : List ℕ) (e : ℕ) (o o₁ : List ℕ) → Put bs 0 e o o₁ → o₁ ≡ bs ++ drop (length bs) o
-front-put bs e o o₁ done =
-    done .room ∙ ap₂ (λ (s t : List ℕ). s ++ t) (take-all (length bs) bs (le-refl (length bs))) (ap (λ (k : ℕ). drop k o) (zero-add (length bs)))
+output-long : (bytes a b c d : ℕ) → longEnough bytes a b c d ≡ true → bytes ≤ d
+output-long bytes a b c d h = leb-true bytes d (and-right (leb 320 a && leb 25920 b && leb 4097 c) (leb bytes d) h)
 
 -- what was refused left the rooms as they were
 pub wrote-refused : (worked : Bool) (bs : List ℕ) (e : ℕ) (a b : Rooms) → worked ≡ false → Put bs 0 e (a .output) (b .output)
@@ -58,12 +46,12 @@ module _ (bytes : ℕ) (worked : Bool) (bs : List ℕ) (r : Rooms) where
   pub written-none : enough bytes r ≡ false → record { answer = NoRoom; rooms = r } ≡ written (enough bytes r) worked bs r
   written-none h = rw h
 
-  pub written-all : enough bytes r ≡ true → (e : ℕ) (rs ws cs o : List ℕ) → Wrote worked bs e r (record { result = rs; work = ws; counts = cs; output = o })
+  pub written-all : length bs ≤ bytes → enough bytes r ≡ true → (e : ℕ) (rs ws cs o : List ℕ) → Wrote worked bs e r (record { result = rs; work = ws; counts = cs; output = o })
       → record { answer = Bytes e; rooms = record { result = rs; work = ws; counts = cs; output = o } } ≡ written (enough bytes r) worked bs r
-  written-all h e rs ws cs o done =
-      let long : e ≡ length bs = done .put .ends ∙ zero-add (length bs) in
-      let front = front-put bs e (r .output) o (done .put) in
-      rw h (λ i. record { answer = Bytes (long i); rooms = record { result = done .result i; work = done .work i; counts = done .counts i; output = front i } })
+  written-all short h e rs ws cs o done =
+      let long = output-long bytes (length (r .result)) (length (r .work)) (length (r .counts)) (length (r .output)) h in
+      let all = put-whole bs e (r .output) o (done .put) (le-trans short long) in
+      rw h (λ i. record { answer = Bytes (all i .end); rooms = record { result = done .result i; work = done .work i; counts = done .counts i; output = all i .room } })
 
 module _ (bytes : ℕ) (worked : Bool) (bs numbers : List ℕ) (r : Rooms) where
   pub few-numbers : length numbers < 16384 → record { answer = NoRoom; numbers = numbers; rooms = r } ≡ textWritten (enough bytes r) worked bs numbers r
@@ -76,7 +64,3 @@ module _ (bytes : ℕ) (worked : Bool) (bs numbers : List ℕ) (r : Rooms) where
     pub text-all : enough bytes r ≡ true → (a : NumbersWritten) (ns : List ℕ) → ns ≡ replicate (length numbers) 0 → a ≡ written (enough bytes r) worked bs r
         → record { answer = a .answer; numbers = ns; rooms = a .rooms } ≡ textWritten (enough bytes r) worked bs numbers r
     text-all h a ns p q = rw (le-leb 16384 (length numbers) l, p, q, h)
-
--- cleared, after a call that keeps its length
-pub cleared : (ns ms : List ℕ) (n : ℕ) → ns ≡ replicate (length ms) 0 → length ms ≡ n → ns ≡ replicate n 0
-cleared ns ms n p e = p ∙ ap (λ (k : ℕ). replicate k 0) e

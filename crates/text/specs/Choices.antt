@@ -14,7 +14,7 @@ use Rattle.parts.specs.declared.Choice.{Choice}
 pub use Rattle.parts.specs.Parts.{plain}
 use Rattle.text.specs.declared.working.Form.{Form}
 use Rattle.text.specs.declared.working.Form.the-variants.{Plain, Chosen}
-use Rattle.text.specs.Writing.{refusedLine}
+use Rattle.writing.specs.Writing.{refusedLine}
 use Rattle.text.specs.Printed.{ofNumbers, numbersWorked}
 
 -- the start that a number stands for

@@ -4,8 +4,9 @@ use Prim.Native.Nat.{ℕ}
 use lib.ListN.{length}
 use Rattle.rules.specs.Input.{Input}
 use Rattle.rules.specs.Graph.{finished}
-use Rattle.text.specs.Writing.{headLine, curveLines}
-use Rattle.text.specs.Printed.{ofNumbers, ofText}
+use Rattle.writing.specs.Told.{ofText}
+use Rattle.text.specs.Lines.{headLine, curveLines}
+use Rattle.text.specs.Printed.{ofNumbers}
 use Rattle.text.specs.Choices.{plain, ofChosen}
 
 -- of an accepted input

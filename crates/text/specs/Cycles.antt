@@ -9,8 +9,10 @@ use Rattle.rules.specs.Graph.{finished}
 use Rattle.rules.specs.Questions.{unitsAt, largest}
 use Rattle.rules.specs.Cycles.{cores, coreAt, cyclesOf, aboveCycles}
 use Rattle.rules.specs.Longest.{longest}
-use Rattle.text.specs.Writing.{decimal, headWords, countLine, linesBelow}
-use Rattle.text.specs.Printed.{ofNumbers, ofText}
+use Rattle.writing.specs.Writing.{decimal}
+use Rattle.writing.specs.Told.{ofText}
+use Rattle.text.specs.Lines.{headWords, countLine, linesBelow}
+use Rattle.text.specs.Printed.{ofNumbers}
 use Rattle.text.specs.Choices.{plain, ofChosen}
 
 -- " longest "

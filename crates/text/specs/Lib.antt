@@ -1,8 +1,8 @@
--- Numbers and lines as text
-pub mod Writing
--- how they are put into a room
-pub mod Put
--- numbers written to be read
+-- The lines of a curve
+pub mod Lines
+-- they from the units at each miss count
+pub mod Counts
+-- the numbers that they say
 pub mod Numbers
 -- What is printed, or refused
 pub mod Printed
@@ -18,9 +18,3 @@ pub mod Rooms
 pub mod Working
 -- which text is wanted
 pub mod Wanted
--- What is said of a trace
-pub mod Traces
--- The text of a listing, and the curve program's input
-pub mod Listings
--- what a call for it leaves
-pub mod GraphRooms

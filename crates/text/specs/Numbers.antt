@@ -1,14 +1,8 @@
--- Numbers written to be read: a list of them as text, and the numbers that the lines of a curve say.
+-- The numbers that the lines of a curve say.
 use mathlib.Core.List.{List, [], _∷_, _++_}
 use Prim.Native.Nat.{ℕ, zero, suc}
 use Rattle.rules.specs.declared.State.{State}
 use Rattle.rules.specs.Questions.{unitsAt, above}
-use Rattle.text.specs.Writing.{decimal}
-
--- each number and a space
-unfoldable pub spaced : List ℕ → List ℕ
-spaced [] = []
-spaced (n ∷ ns) = decimal n ++ (32 ∷ spaced ns)
 
 -- misses, units there, units above, for each miss count below m
 unfoldable pub triples : ℕ → List State → List ℕ

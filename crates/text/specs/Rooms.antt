@@ -1,12 +1,13 @@
 -- What a call leaves: its answer, and the rooms that were lent.
-use mathlib.Core.Bool.{Bool, true, false, cond, _&&_}
+use mathlib.Core.Bool.{Bool, true, false, _&&_}
 use mathlib.Core.List.{List, _++_}
 use Prim.Native.Nat.{ℕ}
 use lib.Dec.{leb}
-use lib.ListN.{length, drop, replicate}
-use Rattle.text.specs.declared.Written.{Written}
-use Rattle.text.specs.declared.Written.the-variants.{Bytes, NoRoom}
-use Rattle.text.specs.Printed.{numbersWorked, textWorked}
+use lib.ListN.{length, drop}
+use Rattle.writing.specs.declared.Written.{Written}
+use Rattle.writing.specs.declared.Written.the-variants.{Bytes, NoRoom}
+use Rattle.writing.specs.Told.{textWorked, zeroIf}
+use Rattle.text.specs.Printed.{numbersWorked}
 use Rattle.text.specs.Choices.{plain, chosenWorked}
 use Rattle.text.specs.Curve.{curveOfNumbers, curveOfText, curveOfChosenText}
 use Rattle.text.specs.Cycles.{cyclesOfNumbers, cyclesOfText, cyclesOfChosenText}
@@ -33,10 +34,6 @@ curveBytes = 262144
 -- surely enough for the curves in cycles: one of at most 84, and for each core one of at most 77 and 4,097 of at most 63
 abbrev pub cyclesBytes : ℕ
 cyclesBytes = 3145728
-
--- what was worked in is zero; what was refused left it as it was
-abbrev pub zeroIf : Bool → List ℕ → List ℕ
-zeroIf worked room = cond worked (replicate (length room) 0) room
 
 -- ---- a list of numbers
 

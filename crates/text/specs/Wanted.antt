@@ -5,7 +5,8 @@ use Rattle.rules.specs.Input.{Input}
 use Rattle.text.specs.declared.working.Wanted.{Wanted}
 use Rattle.text.specs.declared.working.Wanted.the-variants.{Misses, Cycles}
 use Rattle.text.specs.declared.working.Form.{Form}
-use Rattle.text.specs.Printed.{ofNumbers, ofText, numbersWorked, textWorked}
+use Rattle.writing.specs.Told.{ofText, textWorked}
+use Rattle.text.specs.Printed.{ofNumbers, numbersWorked}
 use Rattle.text.specs.Choices.{plain, ofForm, formWorked}
 use Rattle.text.specs.Curve.{curve}
 use Rattle.text.specs.Cycles.{inCycles}

@@ -14,12 +14,13 @@ use Rattle.rules.specs.Longest.{longest}
 use Rattle.words.specs.Tables.{tableOf}
 use Rattle.parts.specs.declared.Choice.{Choice}
 use Rattle.parts.specs.Parts.{complete, inputFrom}
-use Rattle.text.specs.Writing.{headLine, linesBelow, curveLines}
-use Rattle.text.specs.Put.{Put}
+use Rattle.writing.specs.Put.{Put}
+use Rattle.writing.specs.Told.{zeroIf}
+use Rattle.text.specs.Lines.{headLine, linesBelow, curveLines}
 use Rattle.text.specs.Printed.{ofNumbers}
 use Rattle.text.specs.Curve.{curve}
 use Rattle.text.specs.Cycles.{longestLine, coreLines, inCycles}
-use Rattle.text.specs.Rooms.{Rooms, zeroIf}
+use Rattle.text.specs.Rooms.{Rooms}
 
 -- the spread of the table T stands at the front of the counts, n numbers
 pub record Counted (T : List State) (n : ℕ) (counts : List ℕ) : Type 0 where

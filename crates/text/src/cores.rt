@@ -1,31 +1,31 @@
 // The curves in cycles, core after core, from the units at each miss count.
-use crate::writing::put;
-use crate::writing::put_lines;
-use crate::writing::put_named;
+use crate::curves::put_lines;
 use rules::Core;
 use rules::core_at;
-ghost use Prim.Native.Nat.{_+_, _*_, _≤_, _<_};
+use writing::put_byte;
+use writing::put_named;
+ghost use Prim.Native.Nat.{_≤_, _<_};
 ghost use lib.ListN.{length};
 ghost use Rattle.basics.specs.Sums.{sumOver};
 ghost use Rattle.rules.specs.Units.{whole};
-ghost use Rattle.text.specs.Writing.{linesBelow};
+ghost use Rattle.writing.specs.Put.{Put};
+ghost use Rattle.text.specs.Lines.{linesBelow};
 ghost use Rattle.text.specs.Cycles.{coreLine};
-ghost use Rattle.text.specs.Put.{Put, coreCounts};
+ghost use Rattle.text.specs.Counts.{coreCounts};
 
 // The line of a core: its number, its hit cycles and its miss cycles.
 fn put_core_line(room: &mut [u8], at: usize, number: usize, core: Core) -> usize
-    requires { ⌜ at + 77 ≤ length (now room) ⌝ }
     ensures { λ r. ⌜ Put (coreLine number core) at r (now (room .entry)) (now (room .exit)) ⌝ }
 {
     let first = put_named(room, at, b"core ", number as u64);
     let second = put_named(room, first, b" hit ", core.hit);
     let third = put_named(room, second, b" miss ", core.miss);
-    put(room, third, b"\n")
+    put_byte(room, third, b'\n')
 }
 
-// The lines of a core: its own, of at most 77 bytes, and one of at most 63 for each of the counts, where no misses stand for `longest` hits.
+// The lines of a core: its own, and one for each of the counts, where no misses stand for `longest` hits.
 fn put_core(room: &mut [u8], at: usize, number: usize, counts: &[u64], longest: u64) -> usize
-    requires { ⌜ (at + 258188 ≤ length (now room)) × (number < 12) × (length (now counts) ≤ 4097) × (sumOver (λ n. n) (now counts) ≤ whole) × (longest ≤ 4096) ⌝ }
+    requires { ⌜ (number < 12) × (length (now counts) ≤ 4097) × (sumOver (λ n. n) (now counts) ≤ whole) × (longest ≤ 4096) ⌝ }
     ensures { λ r. ⌜ Put (coreCounts longest (now (counts .entry)) number) at r (now (room .entry)) (now (room .exit)) ⌝ }
 {
     let core = core_at(number);
@@ -35,7 +35,7 @@ fn put_core(room: &mut [u8], at: usize, number: usize, counts: &[u64], longest: 
 
 // The lines of every core, in order.
 pub(crate) fn put_cores(room: &mut [u8], at: usize, counts: &[u64], longest: u64) -> usize
-    requires { ⌜ (at + 12 * 258188 ≤ length (now room)) × (length (now counts) ≤ 4097) × (sumOver (λ n. n) (now counts) ≤ whole) × (longest ≤ 4096) ⌝ }
+    requires { ⌜ (length (now counts) ≤ 4097) × (sumOver (λ n. n) (now counts) ≤ whole) × (longest ≤ 4096) ⌝ }
     ensures { λ r. ⌜ Put (linesBelow (coreCounts longest (now (counts .entry))) 12) at r (now (room .entry)) (now (room .exit)) ⌝ }
 {
     let mut end = at;

@@ -1,32 +1,18 @@
-// The programs' text: from the bytes that they read to the bytes that they write, in rooms that the caller lends.
-use crate::graphs::put_listed_text;
-use crate::graphs::room_for_graph;
-use crate::traces::has_bytes;
-use crate::traces::put_listing;
-use crate::traces::put_reading;
+// Curves as text: from the bytes or numbers of a graph to the bytes of its curve, in misses or in cycles, in rooms that the caller lends.
 use crate::working::Form;
 use crate::working::Wanted;
 use crate::working::has_room;
 use crate::working::put_form;
 use crate::working::put_text;
 use basics::clear_numbers;
+use writing::Written;
 ghost use mathlib.Core.Path.{_≡_};
-ghost use Rattle.text.specs.GraphRooms.{afterListing};
 ghost use Rattle.text.specs.Rooms.{afterNumbers, afterText, afterCyclesOfNumbers, afterCyclesOfText, afterChosenText, afterCyclesOfChosenText};
-ghost use Rattle.text.specs.Traces.{accessesTold, damagedTold};
 ghost use Rattle.text.specs.Wanted.{wantedAfter, wantedAfterText};
 
 mod cores;
-mod graphs;
-mod traces;
+mod curves;
 mod working;
-mod writing;
-
-// How many bytes were written, or that a room is too short.
-pub enum Written {
-    Bytes(usize),
-    NoRoom,
-}
 
 // The curve's text for numbers in the curve's order, at the front of `output`. What was worked in is zero then; a refusal, which is a text too, leaves it as it was.
 // Long enough are a result room of 320 words, a working room of 25,920, counts of 4,097, and an output of 262,144 bytes.
@@ -146,55 +132,6 @@ pub fn cycles_of_chosen_text(
         counts,
         output,
     )
-}
-
-// The text of a trace's accesses, at the front of `output`; they go to `accesses`, as reading leaves them. Long enough is an output of 63
-// bytes and 21 for each access that there is room for.
-pub fn accesses_of_trace(trace: &[u8], accesses: &mut [u32], output: &mut [u8]) -> Written
-    ensures { λ r. ⌜ record { answer = r; room = now (accesses .exit); output = now (output .exit) } ≡ accessesTold (now (trace .entry)) (now (accesses .entry)) (now (output .entry)) ⌝ }
-{
-    if !has_bytes(accesses.len(), output.len()) {
-        return Written::NoRoom;
-    }
-    let end = put_reading(trace, accesses, output);
-    Written::Bytes(end)
-}
-
-// The text of a trace's damaged blocks; their places go to `places`. Long enough is an output of 63 bytes and 21 for each place.
-pub fn damaged_of_trace(trace: &[u8], places: &mut [u64], output: &mut [u8]) -> Written
-    ensures { λ r. ⌜ record { answer = r; room = now (places .exit); output = now (output .exit) } ≡ damagedTold (now (trace .entry)) (now (places .entry)) (now (output .entry)) ⌝ }
-{
-    if !has_bytes(places.len(), output.len()) {
-        return Written::NoRoom;
-    }
-    let end = put_listing(trace, places, output);
-    Written::Bytes(end)
-}
-
-// The curve program's input for the text of a listing, at the front of `output`. What was worked in is zero then; a refusal, which is a line too, leaves it as it was
-// but for `numbers`, which is zero. Long enough are 16,384 numbers, 64 run lengths, 4,096 accesses, 4,032 numbers of edges, and an output of 262,144 bytes.
-pub fn graph_of_text(
-    text: &[u8],
-    numbers: &mut [u32],
-    runs: &mut [u32],
-    accesses: &mut [u32],
-    edges: &mut [u32],
-    output: &mut [u8],
-) -> Written
-    ensures { λ r. ⌜ record { answer = r; numbers = now (numbers .exit); rooms = record { runs = now (runs .exit); accesses = now (accesses .exit); edges = now (edges .exit); output = now (output .exit) } } ≡ afterListing (now (text .entry)) (now (numbers .entry)) (record { runs = now (runs .entry); accesses = now (accesses .entry); edges = now (edges .entry); output = now (output .entry) }) ⌝ }
-{
-    if !room_for_graph(
-        numbers.len(),
-        runs.len(),
-        accesses.len(),
-        edges.len(),
-        output.len(),
-    ) {
-        return Written::NoRoom;
-    }
-    let end = put_listed_text(text, numbers, runs, accesses, edges, output);
-    clear_numbers(numbers);
-    Written::Bytes(end)
 }
 
 // The text that is wanted, for numbers in the curve's order.

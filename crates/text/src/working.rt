@@ -1,9 +1,8 @@
 // From the numbers to the text: the graph call, the questions, and the lines that they give.
 use crate::cores::put_cores;
-use crate::writing::put_head;
-use crate::writing::put_lines;
-use crate::writing::put_longest;
-use crate::writing::put_refused;
+use crate::curves::put_head;
+use crate::curves::put_lines;
+use crate::curves::put_longest;
 use parts::Choice;
 use parts::analyse_numbers;
 use parts::longest_of_numbers;
@@ -16,6 +15,7 @@ use rules::Outcome;
 use rules::Start;
 use rules::Units;
 use words::clear;
+use writing::put_refused;
 ghost use mathlib.Core.Path.{_≡_};
 ghost use mathlib.Core.Bool.{true};
 ghost use mathlib.Core.List.{_++_};
@@ -28,11 +28,12 @@ ghost use Rattle.rules.specs.Cycles.{cores};
 ghost use Rattle.rules.specs.Longest.{longest};
 ghost use Rattle.words.specs.Tables.{tableOf};
 ghost use Rattle.parts.specs.Parts.{complete, inputFrom};
-ghost use Rattle.text.specs.Writing.{headLine, curveLines, linesBelow};
-ghost use Rattle.text.specs.Printed.{ofNumbers, ofText, numbersWorked, textWorked};
+ghost use Rattle.writing.specs.Put.{Put};
+ghost use Rattle.writing.specs.Told.{ofText, textWorked};
+ghost use Rattle.text.specs.Lines.{headLine, curveLines, linesBelow};
+ghost use Rattle.text.specs.Printed.{ofNumbers, numbersWorked};
 ghost use Rattle.text.specs.Cycles.{longestLine, coreLines};
 ghost use Rattle.text.specs.Choices.{startOf, ofChosen, chosenWorked, ofForm, formWorked};
-ghost use Rattle.text.specs.Put.{Put};
 ghost use Rattle.text.specs.Rooms.{longEnough};
 ghost use Rattle.text.specs.Working.{Counted, Finishes, Wrote};
 ghost use Rattle.text.specs.Wanted.{wantedText, wantedBytes};
@@ -79,7 +80,7 @@ pub(crate) fn put_curve(
     counts: &mut [u64],
     output: &mut [u8],
 ) -> usize
-    requires { ⌜ (isTable (take states (tableOf (now result))) ≡ true) × (4097 ≤ length (now counts)) × (262144 ≤ length (now output)) ⌝ }
+    requires { ⌜ (isTable (take states (tableOf (now result))) ≡ true) × (4097 ≤ length (now counts)) ⌝ }
     ensures { λ r. ⌜ Put (headLine states (aside .0) ++ curveLines (take states (tableOf (now (result .entry))))) 0 r (now (output .entry)) (now (output .exit)) ⌝ }
 {
     let head = put_head(output, states as u64, aside.0);
@@ -96,7 +97,7 @@ pub(crate) fn put_cycles(
     counts: &mut [u64],
     output: &mut [u8],
 ) -> usize
-    requires { ⌜ (isTable (take states (tableOf (now result))) ≡ true) × (largest (take states (tableOf (now result))) ≤ longest) × (longest ≤ 4096) × (4097 ≤ length (now counts)) × (3145728 ≤ length (now output)) ⌝ }
+    requires { ⌜ (isTable (take states (tableOf (now result))) ≡ true) × (largest (take states (tableOf (now result))) ≤ longest) × (longest ≤ 4096) × (4097 ≤ length (now counts)) ⌝ }
     ensures { λ r. ⌜ Put (longestLine states (aside .0) longest ++ linesBelow (coreLines longest (take states (tableOf (now (result .entry))))) (length cores)) 0 r (now (output .entry)) (now (output .exit)) ⌝ }
 {
     let head = put_longest(output, states as u64, aside.0, longest);
@@ -115,7 +116,7 @@ pub(crate) fn put_wanted(
     counts: &mut [u64],
     output: &mut [u8],
 ) -> usize
-    requires { ⌜ Finishes choice (now numbers) (now result) states aside × (4097 ≤ length (now counts)) × (wantedBytes wanted ≤ length (now output)) ⌝ }
+    requires { ⌜ Finishes choice (now numbers) (now result) states aside × (4097 ≤ length (now counts)) ⌝ }
     ensures { λ r. ⌜ Put (ofNumbers (wantedText wanted) choice (now (numbers .entry))) 0 r (now (output .entry)) (now (output .exit)) ⌝ }
 {
     match wanted {
@@ -138,7 +139,7 @@ pub(crate) fn put_finished(
     counts: &mut [u64],
     output: &mut [u8],
 ) -> usize
-    requires { ⌜ Finishes choice (now numbers) (now result) states aside × (4097 ≤ length (now counts)) × (wantedBytes wanted ≤ length (now output)) ⌝ }
+    requires { ⌜ Finishes choice (now numbers) (now result) states aside × (4097 ≤ length (now counts)) ⌝ }
     ensures { λ r. ⌜ Put (ofNumbers (wantedText wanted) choice (now (numbers .entry))) 0 r (now (output .entry)) (now (output .exit)) × (now (result .exit) ≡ replicate (length (now (result .entry))) 0) × (now (counts .exit) ≡ replicate (length (now (counts .entry))) 0) ⌝ }
 {
     let end = put_wanted(
@@ -166,7 +167,7 @@ pub(crate) fn put_numbers(
     counts: &mut [u64],
     output: &mut [u8],
 ) -> usize
-    requires { ⌜ (320 ≤ length (now result)) × (25920 ≤ length (now work)) × (4097 ≤ length (now counts)) × (wantedBytes wanted ≤ length (now output)) ⌝ }
+    requires { ⌜ (320 ≤ length (now result)) × (25920 ≤ length (now work)) × (4097 ≤ length (now counts)) ⌝ }
     ensures { λ r. ⌜ Wrote (numbersWorked choice (now (numbers .entry))) (ofNumbers (wantedText wanted) choice (now (numbers .entry))) r (record { result = now (result .entry); work = now (work .entry); counts = now (counts .entry); output = now (output .entry) }) (record { result = now (result .exit); work = now (work .exit); counts = now (counts .exit); output = now (output .exit) }) ⌝ }
 {
     match analyse_numbers(choice, numbers, result, work) {
@@ -203,7 +204,7 @@ pub(crate) fn put_chosen(
     counts: &mut [u64],
     output: &mut [u8],
 ) -> usize
-    requires { ⌜ (320 ≤ length (now result)) × (25920 ≤ length (now work)) × (4097 ≤ length (now counts)) × (wantedBytes wanted ≤ length (now output)) ⌝ }
+    requires { ⌜ (320 ≤ length (now result)) × (25920 ≤ length (now work)) × (4097 ≤ length (now counts)) ⌝ }
     ensures { λ r. ⌜ Wrote (chosenWorked (now (numbers .entry))) (ofChosen (wantedText wanted) (now (numbers .entry))) r (record { result = now (result .entry); work = now (work .entry); counts = now (counts .entry); output = now (output .entry) }) (record { result = now (result .exit); work = now (work .exit); counts = now (counts .exit); output = now (output .exit) }) ⌝ }
 {
     if numbers.len() < 3 {
@@ -231,7 +232,7 @@ pub(crate) fn put_form(
     counts: &mut [u64],
     output: &mut [u8],
 ) -> usize
-    requires { ⌜ (320 ≤ length (now result)) × (25920 ≤ length (now work)) × (4097 ≤ length (now counts)) × (wantedBytes wanted ≤ length (now output)) ⌝ }
+    requires { ⌜ (320 ≤ length (now result)) × (25920 ≤ length (now work)) × (4097 ≤ length (now counts)) ⌝ }
     ensures { λ r. ⌜ Wrote (formWorked form (now (numbers .entry))) (ofForm form (wantedText wanted) (now (numbers .entry))) r (record { result = now (result .entry); work = now (work .entry); counts = now (counts .entry); output = now (output .entry) }) (record { result = now (result .exit); work = now (work .exit); counts = now (counts .exit); output = now (output .exit) }) ⌝ }
 {
     match form {
@@ -258,7 +259,7 @@ pub(crate) fn put_text(
     counts: &mut [u64],
     output: &mut [u8],
 ) -> usize
-    requires { ⌜ (16384 ≤ length (now numbers)) × (320 ≤ length (now result)) × (25920 ≤ length (now work)) × (4097 ≤ length (now counts)) × (wantedBytes wanted ≤ length (now output)) ⌝ }
+    requires { ⌜ (16384 ≤ length (now numbers)) × (320 ≤ length (now result)) × (25920 ≤ length (now work)) × (4097 ≤ length (now counts)) ⌝ }
     ensures { λ r. ⌜ Wrote (textWorked (formWorked form) (now (text .entry))) (ofText (ofForm form (wantedText wanted)) (now (text .entry))) r (record { result = now (result .entry); work = now (work .entry); counts = now (counts .entry); output = now (output .entry) }) (record { result = now (result .exit); work = now (work .exit); counts = now (counts .exit); output = now (output .exit) }) ⌝ }
 {
     match read_numbers(text, numbers) {

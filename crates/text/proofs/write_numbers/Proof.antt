@@ -4,10 +4,12 @@ use mathlib.Core.Bool.{true}
 use borrow.Author.Needs.{needs}
 use borrow.Author.Tests.{not-true, not-false}
 use denote.Ref.{now}
+use lib.ListN.{length}
 use Rattle.text.specs.Printed.{ofNumbers, numbersWorked}
 use Rattle.text.specs.Choices.{plain}
 use Rattle.text.specs.Rooms.{Rooms, enough}
 use Rattle.text.specs.Wanted.{wantedText, wantedBytes}
+use Rattle.text.proofs.Lengths.{numbers-long}
 use Rattle.text.proofs.Rooms.{rooms-long, written-none, written-all}
 use Rattle.text.proofs.write_numbers.Statement.{statement}
 use Rattle.text.proofs.write_numbers.Tie as tie
@@ -16,21 +18,31 @@ use Rattle.text.proofs.write_numbers.Tie as tie
 abbrev rooms : tie.Start → Rooms
 rooms s = let a = s .args in record { result = now (a .result); work = now (a .work); counts = now (a .counts); output = now (a .output) }
 
+-- where the function starts, seen from where the rooms are known to be long enough
+abbrev startOf : tie.Else1 → tie.Start
+startOf c = c .before .before .before .before .before .before .before
+
 -- they are long enough
-long : (c : tie.Else1) → enough (wantedBytes (c .before .before .before .before .before .before .before .args .wanted)) (rooms (c .before .before .before .before .before .before .before)) ≡ true
+long : (c : tie.Else1) → enough (wantedBytes (startOf c .args .wanted)) (rooms (startOf c)) ≡ true
 long c = sym (c .before .has-room .ensures) ∙ not-false _ (c .if1 .left)
 
 returns : tie.Need-returns
 returns c = written-none _ _ _ _ (sym (c .before .has-room .ensures) ∙ not-true _ (c .if1 .taken))
 
 put-form-requires : tie.Need-put-form-requires
-put-form-requires c κs = rooms-long _ _ _ _ _ (long (c .before .before .before .before))
+put-form-requires c κs =
+    let able = c .before .before .before .before in
+    let a = startOf able .args in
+    rooms-long (wantedBytes (a .wanted)) _ _ _ (length (now (a .output))) (long able)
 
 returns-2 : tie.Need-returns-2
 returns-2 c =
-    let a = c .before .before .before .before .before .before .before .before .before .before .before .before .before .before .before .before .before .before .before .before .args in
-    let numbers = now (a .numbers) in
-    written-all (wantedBytes (a .wanted)) (numbersWorked plain numbers) (ofNumbers (wantedText (a .wanted)) plain numbers) (rooms (c .before .before .before .before .before .before .before .before .before .before .before .before .before .before .before .before .before .before .before .before)) (long (c .before .before .before .before .before .before .before .before .before .before .before .before .before)) _ _ _ _ _ (c .before .before .before .before .before .before .before .before .put-form .ensures)
+    let put = c .before .before .before .before .before .before .before .before in
+    let able = put .before .before .before .before .before in
+    let s = startOf able in
+    let w = s .args .wanted in
+    let numbers = now (s .args .numbers) in
+    written-all (wantedBytes w) (numbersWorked plain numbers) (ofNumbers (wantedText w) plain numbers) (rooms s) (numbers-long w plain numbers) (long able) _ _ _ _ _ (put .put-form .ensures)
 
 pub write-numbers-spec : {M : Type 1} → statement M
 write-numbers-spec =

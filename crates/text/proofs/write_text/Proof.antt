@@ -4,11 +4,14 @@ use mathlib.Core.Bool.{true}
 use borrow.Author.Needs.{needs}
 use borrow.Author.Tests.{not-true, not-false}
 use denote.Ref.{now}
-use Rattle.text.specs.Printed.{ofText, textWorked}
+use lib.ListN.{length}
+use Rattle.writing.specs.Told.{ofText, textWorked}
+use Rattle.writing.proofs.Told.{cleared}
 use Rattle.text.specs.Choices.{ofForm, formWorked}
 use Rattle.text.specs.Rooms.{Rooms, enough}
 use Rattle.text.specs.Wanted.{wantedText, wantedBytes}
-use Rattle.text.proofs.Rooms.{rooms-long, written-all, cleared, few-numbers, text-none, text-all}
+use Rattle.text.proofs.Lengths.{form-text-long}
+use Rattle.text.proofs.Rooms.{rooms-long, written-all, few-numbers, text-none, text-all}
 use Rattle.text.proofs.write_text.Statement.{statement}
 use Rattle.text.proofs.write_text.Tie as tie
 
@@ -16,8 +19,12 @@ use Rattle.text.proofs.write_text.Tie as tie
 abbrev rooms : tie.Start → Rooms
 rooms s = let a = s .args in record { result = now (a .result); work = now (a .work); counts = now (a .counts); output = now (a .output) }
 
+-- where the function starts, seen from where the rooms are known to be long enough
+abbrev startOf : tie.Else2 → tie.Start
+startOf c = c .before .before .before .before .before .before .before .before .before
+
 -- they are long enough
-long : (c : tie.Else2) → enough (wantedBytes (c .before .before .before .before .before .before .before .before .before .args .wanted)) (rooms (c .before .before .before .before .before .before .before .before .before)) ≡ true
+long : (c : tie.Else2) → enough (wantedBytes (startOf c .args .wanted)) (rooms (startOf c)) ≡ true
 long c = sym (c .before .has-room .ensures) ∙ not-false _ (c .if2 .left)
 
 returns : tie.Need-returns
@@ -28,20 +35,25 @@ returns-2 c = text-none _ _ _ _ _ (c .before .before .if1 .left) (sym (c .before
 
 put-text-requires : tie.Need-put-text-requires
 put-text-requires c κs =
-    let all = rooms-long _ _ _ _ _ (long (c .before .before .before .before .before)) in
-    (c .before .before .before .before .before .before .before .if1 .left, all .0, all .1, all .2, all .3)
+    let able = c .before .before .before .before .before in
+    let a = startOf able .args in
+    let (result, work, counts) = rooms-long (wantedBytes (a .wanted)) (length (now (a .result))) (length (now (a .work))) (length (now (a .counts))) (length (now (a .output))) (long able) in
+    (able .before .before .if1 .left, result, work, counts)
 
 returns-3 : tie.Need-returns-3
 returns-3 c =
-    let a = c .before .before .before .before .before .before .before .before .before .before .before .before .before .before .before .before .before .before .before .before .before .before .before .before .before .before .before .before .before .args in
-    let put = c .before .before .before .before .before .before .before .before .before .before .before .before .before .before .put-text in
+    let clean = c .before .before in
+    let put = clean .before .before .before .before .before .before .before .before .before .before .before .before in
+    let able = put .before .before .before .before .before .before in
+    let s = startOf able in
+    let a = s .args in
     let bytes = wantedBytes (a .wanted) in
     let worked = textWorked (formWorked (a .form)) (now (a .text)) in
     let text = ofText (ofForm (a .form) (wantedText (a .wanted))) (now (a .text)) in
-    let enough = long (c .before .before .before .before .before .before .before .before .before .before .before .before .before .before .before .before .before .before .before .before) in
-    text-all bytes worked text (now (a .numbers)) (rooms (c .before .before .before .before .before .before .before .before .before .before .before .before .before .before .before .before .before .before .before .before .before .before .before .before .before .before .before .before .before)) (c .before .before .before .before .before .before .before .before .before .before .before .before .before .before .before .before .before .before .before .before .before .before .if1 .left) enough _ _
-    (cleared _ (put .last .1 .1 .1 .0) _ (c .before .before .clear-numbers .ensures) (put .kept .1 .1 .1 .0))
-    (written-all bytes worked text (rooms (c .before .before .before .before .before .before .before .before .before .before .before .before .before .before .before .before .before .before .before .before .before .before .before .before .before .before .before .before .before)) enough _ _ _ _ _ (put .ensures))
+    let p = put .put-text in
+    text-all bytes worked text (now (a .numbers)) (rooms s) (able .before .before .if1 .left) (long able) _ _
+    (cleared _ (p .last .1 .1 .1 .0) _ (clean .clear-numbers .ensures) (p .kept .1 .1 .1 .0))
+    (written-all bytes worked text (rooms s) (form-text-long (a .form) (a .wanted) (now (a .text))) (long able) _ _ _ _ _ (p .ensures))
 
 pub write-text-spec : {M : Type 1} → statement M
 write-text-spec =

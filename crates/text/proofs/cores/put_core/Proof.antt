@@ -3,39 +3,36 @@
 use native.Mathlib.Omega.{arith}
 use borrow.Author.Needs.{needs}
 use denote.Ref.{now}
-use Rattle.text.proofs.Putting.{put-then}
-use Rattle.text.proofs.CoreLines.{core-line-long, hit-no-dearer, hits-fit, numbers-fit, core-put}
+use Rattle.writing.proofs.Putting.{put-then}
+use Rattle.text.proofs.CoreLines.{hit-no-dearer, hits-fit, numbers-fit, core-put}
 use Rattle.text.proofs.cores.put_core.Statement.{statement}
 use Rattle.text.proofs.cores.put_core.Tie as tie
 
 mul-put-lines : tie.Need-mul-put-lines
 mul-put-lines c =
-    let (long, known, few, full, path) = c .before .before .before .before .before .before .before .before .before .pre in
-    omega (arith, hits-fit _ known _ path _ (c .before .before .before .before .before .before .core-at .ensures))
+    let core = c .before .before .before .before .before .before in
+    let (known, few, full, path) = core .before .before .before .pre in
+    omega (arith, hits-fit _ known _ path _ (core .core-at .ensures))
 
 sub-put-lines : tie.Need-sub-put-lines
 sub-put-lines c =
-    let (long, known, few, full, path) = c .before .before .before .before .before .before .before .before .before .before .pre in
-    hit-no-dearer _ known _ path _ (c .before .before .before .before .before .before .before .core-at .ensures)
+    let core = c .before .before .before .before .before .before .before in
+    let (known, few, full, path) = core .before .before .before .pre in
+    hit-no-dearer _ known _ path _ (core .core-at .ensures)
 
 put-lines-requires : tie.Need-put-lines-requires
 put-lines-requires c κs =
-    let (long, known, few, full, path) = c .before .before .before .before .before .before .before .before .before .before .pre in
-    let a = c .before .before .before .before .before .before .before .before .before .before .args in
-    let core = c .before .before .before .before .before .before .before .core-at in
-    let line = c .before .before .before .before .before .put-core-line in (
-      omega (arith, long, few, line .ensures .ends, line .kept .0, core-line-long (a .number) (core .result)),
-      full,
-      numbers-fit _ known _ path _ (core .ensures) (now (a .counts)) few,
-    )
+    let core = c .before .before .before .before .before .before .before in
+    let (known, few, full, path) = core .before .before .before .pre in
+    (full, numbers-fit _ known _ path _ (core .core-at .ensures) (now (core .before .before .before .args .counts)) few)
 
 returns : tie.Need-returns
 returns c =
-    let (long, known, few, full, path) = c .before .before .before .before .before .before .before .before .before .before .before .before .before .pre in
-    let a = c .before .before .before .before .before .before .before .before .before .before .before .before .before .args in
-    let core = c .before .before .before .before .before .before .before .before .before .before .core-at in
-    core-put _ known _ path _ (core .ensures) _ _ _ _ _
-    (put-then _ _ _ _ _ (c .before .before .before .before .before .before .before .before .put-core-line .ensures) (omega (arith, long, core-line-long (a .number) (core .result))) _ _ _ (c .before .before .put-lines .ensures))
+    let lines = c .before .before in
+    let line = lines .before .before .before .before .before .before in
+    let core = line .before .before in
+    let (known, few, full, path) = core .before .before .before .pre in
+    core-put _ known _ path _ (core .core-at .ensures) _ _ _ _ _ (put-then _ _ _ _ _ (line .put-core-line .ensures) _ _ _ (lines .put-lines .ensures))
 
 pub put-core-spec : {M : Type 1} → statement M
 put-core-spec =

@@ -1,44 +1,45 @@
 -- `put_cycles` meets its contract: the first line, and the lines of every core from the counts of the spread.
+use Prim.Native.Nat.{_≤_}
 use native.Mathlib.Omega.{arith}
 use borrow.Author.Needs.{needs}
 use denote.Ref.{now}
 use lib.ListN.{take}
 use Rattle.rules.proofs.Questions.{table-largest}
 use Rattle.words.specs.Tables.{tableOf}
-use Rattle.text.proofs.Putting.{put-is, put-then, longest-long}
+use Rattle.writing.proofs.Putting.{put-is, put-then}
 use Rattle.text.proofs.Lines.{counted-long, counted-cores, counted-whole}
 use Rattle.text.proofs.working.put_cycles.Statement.{statement}
 use Rattle.text.proofs.working.put_cycles.Tie as tie
 
+-- where the function starts, seen from the call that counts
+abbrev startOf : tie.After-count-all → tie.Start
+startOf c = c .before .before .before .before .before .before .before .before .before
+
+-- there are no more counts than a table can have
+few : (c : tie.After-count-all) → c .count-all .result ≤ 4097
+few c =
+    let s = startOf c in
+    omega (arith, c .count-all .ensures .count, table-largest (take (s .args .states) (tableOf (now (s .args .result)))) (s .pre .0))
+
 counts-within : tie.Need-slice-reshare-prefix-put-cores
-counts-within c =
-    let start = c .before .before .before .before .before .before .before .before .before .before .before .before in
-    let n = c .before .before .before .count-all in
-    let T = take (start .args .states) (tableOf (now (start .args .result))) in
-    omega (arith, n .ensures .count, n .kept .1 .1 .0, table-largest T (start .pre .0))
+counts-within c = let n = c .before .before .before in omega (arith, few n, n .count-all .kept .1 .1 .0)
 
 counts-long : tie.Need-slice-aggregate-put-cores
 counts-long c = counted-long _ _ _ (c .before .before .before .before .count-all .ensures)
 
 put-cores-requires : tie.Need-put-cores-requires
 put-cores-requires c κs =
-    let start = c .before .before .before .before .before .before .before .before .before .before .before .before .before in
-    let a = start .args in
-    let n = c .before .before .before .before .count-all in
-    let head = c .before .before .before .before .before .before .before .before .put-longest in
-    let T = take (a .states) (tableOf (now (a .result))) in (
-      omega (arith, head .ensures .ends, head .kept .0, longest-long (a .states) (a .aside .0) (a .longest)),
-      omega (arith, counted-long T _ _ (n .ensures), n .ensures .count, table-largest T (start .pre .0)),
-      counted-whole T _ _ (start .pre .0) (n .ensures),
-      start .pre .2,
-    )
+    let n = c .before .before .before .before in
+    let (good, covered, path, room) = startOf n .pre in
+    let found = n .count-all .ensures in
+    (omega (arith, counted-long _ _ _ found, few n), counted-whole _ _ _ good found, path)
 
 returns : tie.Need-returns
 returns c =
-    let start = c .before .before .before .before .before .before .before .before .before .before .before .before .before .before .before .before in
-    let a = start .args in
-    let lines = put-is _ _ _ _ _ _ (c .before .before .put-cores .ensures) (counted-cores _ _ _ (start .pre .0) (c .before .before .before .before .before .before .before .count-all .ensures) (a .longest) (start .pre .1)) in
-    put-then _ _ _ _ _ (c .before .before .before .before .before .before .before .before .before .before .before .put-longest .ensures) (omega (arith, longest-long (a .states) (a .aside .0) (a .longest))) _ _ _ lines
+    let lines = c .before .before in
+    let n = lines .before .before .before .before .before in
+    let head = n .before .before .before .before in
+    put-then _ _ _ _ _ (head .put-longest .ensures) _ _ _ (put-is _ _ _ _ _ _ (lines .put-cores .ensures) (counted-cores _ _ _ (startOf n .pre .0) (n .count-all .ensures) _ (startOf n .pre .1)))
 
 pub put-cycles-spec : {M : Type 1} → statement M
 put-cycles-spec =

@@ -1,6 +1,6 @@
 -- `put_finished` meets its contract: what is wanted is put, and then two rooms are cleared.
 use borrow.Author.Needs.{needs}
-use Rattle.text.proofs.Rooms.{cleared}
+use Rattle.writing.proofs.Told.{cleared}
 use Rattle.text.proofs.working.put_finished.Statement.{statement}
 use Rattle.text.proofs.working.put_finished.Tie as tie
 
@@ -9,8 +9,10 @@ put-wanted-requires c κs = c .before .before .before .before .before .before .b
 
 returns : tie.Need-returns
 returns c =
-    let put = c .before .before .before .before .before .before .before .before .before .before .before .before .put-wanted in
-    (put .ensures, c .before .before .before .before .before .before .clear .ensures, cleared _ (put .last .1 .1 .1 .1 .1 .1 .0) _ (c .before .before .clear2 .ensures) (put .kept .1 .1 .1 .1 .1 .1 .0))
+    let second = c .before .before in
+    let first = second .before .before .before .before in
+    let put = first .before .before .before .before .before .before .put-wanted in
+    (put .ensures, first .clear .ensures, cleared _ (put .last .1 .1 .1 .1 .1 .1 .0) _ (second .clear2 .ensures) (put .kept .1 .1 .1 .1 .1 .1 .0))
 
 pub put-finished-spec : {M : Type 1} → statement M
 put-finished-spec =

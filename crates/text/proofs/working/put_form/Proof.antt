@@ -11,15 +11,19 @@ use Rattle.text.proofs.working.put_form.Tie as tie
 
 returns : tie.Need-returns
 returns c =
-    let a = c .before .before .before .before .before .before .before .before .before .before .before .before .before .before .before .before .before .before .before .before .args in
-    let form = c .before .before .before .before .before .before .before .before .before .before .before .before .before .enum-told .given .1 in
-    wrote-same _ _ _ _ _ _ _ (c .before .before .before .before .before .before .before .before .put-numbers .ensures) (sym (ap (λ (f : Form). formWorked f (now (a .numbers))) form)) (sym (ap (λ (f : Form). ofForm f (wantedText (a .wanted)) (now (a .numbers))) form))
+    let put = c .before .before .before .before .before .before .before .before in
+    let told = put .before .before .before .before .before in
+    let a = told .before .before .before .before .before .before .before .args in
+    wrote-same _ _ _ _ _ _ _ (put .put-numbers .ensures) (sym (ap (λ (f : Form). formWorked f (now (a .numbers))) (told .enum-told .given .1)))
+    (sym (ap (λ (f : Form). ofForm f (wantedText (a .wanted)) (now (a .numbers))) (told .enum-told .given .1)))
 
 returns-2 : tie.Need-returns-2
 returns-2 c =
-    let a = c .before .before .before .before .before .before .before .before .before .before .before .before .before .before .before .before .before .before .before .before .args in
-    let form = c .before .before .before .before .before .before .before .before .before .before .before .before .before .enum-told2 .given .1 in
-    wrote-same _ _ _ _ _ _ _ (c .before .before .before .before .before .before .before .before .put-chosen .ensures) (sym (ap (λ (f : Form). formWorked f (now (a .numbers))) form)) (sym (ap (λ (f : Form). ofForm f (wantedText (a .wanted)) (now (a .numbers))) form))
+    let put = c .before .before .before .before .before .before .before .before in
+    let told = put .before .before .before .before .before in
+    let a = told .before .before .before .before .before .before .before .args in
+    wrote-same _ _ _ _ _ _ _ (put .put-chosen .ensures) (sym (ap (λ (f : Form). formWorked f (now (a .numbers))) (told .enum-told2 .given .1)))
+    (sym (ap (λ (f : Form). ofForm f (wantedText (a .wanted)) (now (a .numbers))) (told .enum-told2 .given .1)))
 
 pub put-form-spec : {M : Type 1} → statement M
 put-form-spec =

@@ -1,36 +1,51 @@
 -- `put_text` meets its contract: 9 for what is malformed, and otherwise the text that is wanted of the numbers that were read.
 use mathlib.Core.Path.{refl}
+use Prim.Native.Nat.{_≤_}
 use native.Mathlib.Omega.{arith}
 use borrow.Author.Needs.{needs}
-use Rattle.text.proofs.Putting.{put-is}
-use Rattle.text.proofs.Printed.{text-malformed, malformed-unworked, numbers-few, numbers-long, text-read, read-worked}
-use Rattle.text.proofs.Rooms.{line-fits, wrote-refused, wrote-same}
+use denote.Ref.{now}
+use lib.ListN.{length}
+use Rattle.writing.proofs.Putting.{put-is}
+use Rattle.writing.proofs.Told.{text-malformed, malformed-unworked, numbers-few, numbers-long, text-read, read-worked}
+use Rattle.text.proofs.Rooms.{wrote-refused, wrote-same}
 use Rattle.text.proofs.working.put_text.Statement.{statement}
 use Rattle.text.proofs.working.put_text.Tie as tie
 
-put-refused-requires : tie.Need-put-refused-requires
-put-refused-requires c κs = line-fits (c .before .before .before .before .before .before .before .before .before .before .before .before .before .args .wanted) _ (c .before .before .before .before .before .before .before .before .before .before .before .before .before .pre .4)
+-- where the function starts, seen from the call that reads
+abbrev startOf : tie.After-read-numbers → tie.Start
+startOf c = c .before .before .before .before .before .before .before .before
+
+-- there is room for every text's numbers
+long : (c : tie.After-read-numbers) → 16384 ≤ length (now (startOf c .args .numbers))
+long c = startOf c .pre .0
 
 numbers-within : tie.Need-slice-reshare-prefix-put-form
 numbers-within c =
-    let read = c .before .before .before .before .before .read-numbers in
-    omega (arith, numbers-few _ _ (c .before .before .before .before .before .before .before .before .before .before .before .before .before .pre .0) _ _ (read .ensures) _ (c .before .n .given .1), read .kept .1 .0)
+    let n = c .before in
+    let r = n .before .before .before .before in
+    omega (arith, numbers-few _ _ (long r) _ _ (r .read-numbers .ensures) _ (n .n .given .1), r .read-numbers .kept .1 .0, long r)
 
 numbers-are : tie.Need-slice-aggregate-put-form
-numbers-are c = numbers-long _ _ (c .before .before .before .before .before .before .before .before .before .before .before .before .before .before .pre .0) _ _ (c .before .before .before .before .before .before .read-numbers .ensures) _ (c .before .before .n .given .1)
+numbers-are c =
+    let n = c .before .before in
+    let r = n .before .before .before .before in
+    numbers-long _ _ (long r) _ _ (r .read-numbers .ensures) _ (n .n .given .1)
 
 returns : tie.Need-returns
 returns c =
-    let read = c .before .before .before .before .before .before .before .before .read-numbers .ensures in
-    let nothing = c .before .before .before .before .enum-told .given .1 in
-    wrote-refused _ _ _ _ _ (malformed-unworked _ _ (c .before .before .before .before .before .before .before .before .before .before .before .before .before .before .before .before .pre .0) _ _ read _ nothing)
-    (put-is _ _ _ _ _ _ (c .before .before .put-refused .ensures) (text-malformed _ _ (c .before .before .before .before .before .before .before .before .before .before .before .before .before .before .before .before .pre .0) _ _ read _ nothing)) refl refl refl
+    let put = c .before .before in
+    let nothing = put .before .before in
+    let r = nothing .before .before .before .before in
+    wrote-refused _ _ _ _ _ (malformed-unworked _ _ (long r) _ _ (r .read-numbers .ensures) _ (nothing .enum-told .given .1))
+    (put-is _ _ _ _ _ _ (put .put-refused .ensures) (text-malformed _ _ (long r) _ _ (r .read-numbers .ensures) _ (nothing .enum-told .given .1))) refl refl refl
 
 returns-2 : tie.Need-returns-2
 returns-2 c =
-    let read = c .before .before .before .before .before .before .before .before .before .before .before .before .before .before .before .before .before .before .before .read-numbers .ensures in
-    let n = c .before .before .before .before .before .before .before .before .before .before .before .before .before .before .before .n .given .1 in
-    wrote-same _ _ _ _ _ _ _ (c .before .before .before .before .before .before .before .before .put-form .ensures) (read-worked _ _ (c .before .before .before .before .before .before .before .before .before .before .before .before .before .before .before .before .before .before .before .before .before .before .before .before .before .before .before .pre .0) _ _ read _ n _) (text-read _ _ (c .before .before .before .before .before .before .before .before .before .before .before .before .before .before .before .before .before .before .before .before .before .before .before .before .before .before .before .pre .0) _ _ read _ n _)
+    let put = c .before .before .before .before .before .before .before .before in
+    let n = put .before .before .before .before .before .before .before in
+    let r = n .before .before .before .before in
+    wrote-same _ _ _ _ _ _ _ (put .put-form .ensures) (read-worked _ _ (long r) _ _ (r .read-numbers .ensures) _ (n .n .given .1) _)
+    (text-read _ _ (long r) _ _ (r .read-numbers .ensures) _ (n .n .given .1) _)
 
 pub put-text-spec : {M : Type 1} → statement M
 put-text-spec =
@@ -38,7 +53,7 @@ put-text-spec =
     (tie.spec
     (λ c κs. search needs)
     (λ c. search needs)
-    put-refused-requires
+    (λ c κs. search needs)
     (λ c. search needs)
     numbers-within
     numbers-are

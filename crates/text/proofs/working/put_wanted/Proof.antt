@@ -1,52 +1,48 @@
 -- `put_wanted` meets its contract: what is printed of a finished table is the curve, or the curves in cycles with the longest path.
-use mathlib.Core.Path.{sym, ap, subst, _∙_}
-use Prim.Native.Nat.{_≤_}
+use mathlib.Core.Path.{sym, ap, _∙_}
 use borrow.Author.Needs.{needs}
 use denote.Ref.{now}
-use lib.ListN.{length}
+use Rattle.writing.proofs.Putting.{put-is}
 use Rattle.text.specs.declared.working.Wanted.{Wanted}
 use Rattle.text.specs.Printed.{ofNumbers}
-use Rattle.text.specs.Wanted.{wantedText, wantedBytes}
-use Rattle.text.proofs.Putting.{put-is}
+use Rattle.text.specs.Wanted.{wantedText}
 use Rattle.text.proofs.working.put_wanted.Statement.{statement}
 use Rattle.text.proofs.working.put_wanted.Tie as tie
 
 put-curve-requires : tie.Need-put-curve-requires
 put-curve-requires c κs =
-    let start = (c .before .before .before .before .before .before .before .before) in (
-      start .pre .0 .table,
-      start .pre .1,
-      subst (λ (w : Wanted). wantedBytes w ≤ length (now (start .args .output))) (c .before .before .enum-told .given .1) (start .pre .2),
-    )
+    let (done, room) = c .before .before .before .before .before .before .before .before .pre in
+    (done .table, room)
 
 longest-of-requires : tie.Need-longest-of-requires
 longest-of-requires c κs =
-    let p = c .before .before .before .before .before .before .pre in
-    (p .0 .whole, p .0 .accepted)
+    let (done, room) = c .before .before .before .before .before .before .pre in
+    (done .whole, done .accepted)
 
 put-cycles-requires : tie.Need-put-cycles-requires
 put-cycles-requires c κs =
-    let start = (c .before .before .before .before .before .before .before .before .before) in
-    let done = start .pre .0 in
-    let longest = c .before .before .longest-of .ensures in (
-      done .table,
-      rw longest (done .covered),
-      rw longest (done .few),
-      start .pre .1,
-      subst (λ (w : Wanted). wantedBytes w ≤ length (now (start .args .output))) (c .before .before .before .enum-told2 .given .1) (start .pre .2),
-    )
+    let l = c .before .before in
+    let (done, room) = l .before .before .before .before .before .before .before .pre in
+    let longest = l .longest-of .ensures in
+    (done .table, rw longest (done .covered), rw longest (done .few), room)
 
 returns : tie.Need-returns
 returns c =
-    let start = (c .before .before .before .before .before .before .before .before .before .before .before .before .before) in
-    put-is _ _ _ _ _ _ (c .before .before .before .before .put-curve .ensures)
-    (start .pre .0 .curve-is ∙ sym (ap (λ (w : Wanted). ofNumbers (wantedText w) (start .args .choice) (now (start .args .numbers))) (c .before .before .before .before .before .before .before .enum-told .given .1)))
+    let put = c .before .before .before .before in
+    let told = put .before .before .before in
+    let s = told .before .before .before .before .before .before in
+    put-is _ _ _ _ _ _ (put .put-curve .ensures)
+    (s .pre .0 .curve-is ∙ sym (ap (λ (w : Wanted). ofNumbers (wantedText w) (s .args .choice) (now (s .args .numbers))) (told .enum-told .given .1)))
 
 returns-2 : tie.Need-returns-2
 returns-2 c =
-    let start = (c .before .before .before .before .before .before .before .before .before .before .before .before .before .before) in
-    put-is _ _ _ _ _ _ (c .before .before .before .before .put-cycles .ensures)
-    (start .pre .0 .cycles-are _ (c .before .before .before .before .before .before .before .longest-of .ensures) ∙ sym (ap (λ (w : Wanted). ofNumbers (wantedText w) (start .args .choice) (now (start .args .numbers))) (c .before .before .before .before .before .before .before .before .enum-told2 .given .1)))
+    let put = c .before .before .before .before in
+    let l = put .before .before .before in
+    let told = l .before in
+    let s = told .before .before .before .before .before .before in
+    put-is _ _ _ _ _ _ (put .put-cycles .ensures)
+    (s .pre .0 .cycles-are _ (l .longest-of .ensures)
+    ∙ sym (ap (λ (w : Wanted). ofNumbers (wantedText w) (s .args .choice) (now (s .args .numbers))) (told .enum-told2 .given .1)))
 
 pub put-wanted-spec : {M : Type 1} → statement M
 put-wanted-spec =

@@ -1,0 +1,2 @@
+-- What is said of a trace
+pub mod Traces
