@@ -1,5 +1,5 @@
 /* The estimate of instruction-cache misses, for C: the graph call, the longest path, the questions put to a finished table, curves as text, the trace
- * recorder's blocks read, judged and written, the graph of a listing, and the nightly build.
+ * recorder's blocks read, judged and written, the graph of a listing, the nightly build, and the best case.
  *
  * Every function ends with an answer or a refusal, whatever the numbers are. A refusal writes nothing, but that reading a trace says which block is damaged; the
  * functions for curves write it as a line of text, and leave all other rooms as they were but the room for a text's numbers, which is zero afterwards.
@@ -11,7 +11,7 @@
  * time, in threads or one interrupting another, as long as what each is lent for writing is lent to it alone. They use no heap, and no memory but what they
  * are lent and the stack, of which 8,192 bytes are enough: only those below estimate_listing call each other, 8 deep at most, and a painted stack showed 2,064 bytes for
  * the graph call, 2,656 for a curve's text, 3,880 for a listing 8 deep and 5,712 for the deepest, a question put to a row of states, on each of the large inputs
- * that were tried.
+ * that were tried. The stack of the functions for the best case, which are laid out as those of the graph call and of its spread, was not measured.
  *
  * Linked from libestimate_c.a, for x86-64, which takes of the C library only memcpy and memset. `rt staticlib estimate_c` makes it:
  *
@@ -24,7 +24,7 @@
 #include <stdint.h>
 
 /* The version of what is declared here: it rises where a function, a constant or what a call gives changes. */
-#define ESTIMATE_VERSION 7
+#define ESTIMATE_VERSION 8
 
 #ifdef __cplusplus
 extern "C" {
@@ -46,6 +46,12 @@ extern "C" {
 #define ESTIMATE_STATE_WORDS 5
 struct estimate_state {
     uint64_t mask, misses, filled[2], units;
+};
+
+/* A state of the best case's table is five words too: 1 if it is exact (the blocks of the mask are all that is held) and 0 if it is open (anything may be
+ * held, and the mask is 0), the mask, the misses, the hits, the units. Where such a table is handed in, every first word but 1 is an open state. */
+struct estimate_best_state {
+    uint64_t exact, mask, misses, hits, units;
 };
 
 /* The revisions of the core: in the first a miss overwrites the drawn way of its set, empty or not; the second takes an empty way of the set while there is
@@ -95,7 +101,7 @@ enum estimate_refusal {
     ESTIMATE_GRAPH = 5,       /* nodes outside 1..64, run lengths that do not sum to the accesses, or an edge rule broken */
     ESTIMATE_ROOM = 6,        /* room for fewer than `limit` result states, or fewer than 5,184 working states */
     ESTIMATE_ROW = 7,         /* the states are no table */
-    ESTIMATE_SPREAD_ROOM = 8, /* spread room shorter than the largest misses + 1 */
+    ESTIMATE_SPREAD_ROOM = 8, /* spread room shorter than the largest count + 1 */
     ESTIMATE_TEXT = 9,        /* malformed: only in a curve's text, as `refused 9`, and in a row of the nightly build */
     ESTIMATE_SETS = 10,       /* a set count other than 1, 2, 4, 8, 16 */
     ESTIMATE_REVISION = 11,   /* a revision other than 1, 2 */
@@ -104,6 +110,8 @@ enum estimate_refusal {
     ESTIMATE_LISTING = 14,    /* the tokens are no listing */
     ESTIMATE_EXPANSION = 15,  /* the listing's graph has more than 64 nodes or 4,096 accesses */
     ESTIMATE_NO_CORE = 16,    /* no such core */
+    ESTIMATE_UNTRACKED_ACCESS = 17, /* an accessed block is not tracked: the best case */
+    ESTIMATE_FIRST_REVISION_ONLY = 18, /* revision 2: the best case is of the first alone */
     ESTIMATE_NIGHTLY = 20,    /* more than 256 graphs, counts that do not use the list up exactly, or fewer rows than graphs */
     ESTIMATE_TRACE_ROOM = 21, /* room for fewer than 125 accesses a block, one place a block, or the blocks to be written */
     ESTIMATE_LISTING_ROOM = 22 /* room for fewer than 64 run lengths, 4,096 accesses or 2,016 edges */
@@ -239,6 +247,25 @@ uint64_t estimate_nightly(const uint32_t *numbers, size_t count, uint64_t allowa
                           uint64_t *work, size_t work_words,
                           uint64_t *accepted, uint64_t *text, uint64_t *ways, uint64_t *limit,
                           uint64_t *tracked, uint64_t *accesses, uint64_t *graph, uint64_t *aside);
+
+/* The best case: a second table of the same graph, in which hits and misses are counted separately and never too many. For every path and number, the units
+ * with more misses than that are at most the chance of more misses, in units of 2^-48, and the same holds of hits. The arguments are those of estimate_graph, but that the
+ * cache is empty at first. Gives ESTIMATE_DONE, or the first of 1, 10, 11, 18, 2, 3, 4, 5, 17, 6 that applies. Done, `result` begins with the finished table, exact
+ * states by mask, misses and hits and open ones after them by misses and hits, and is zero beyond it, `work` is zero, and `*states` is how many states the table
+ * has. Refused, nothing is written. */
+uint64_t estimate_best(uint32_t sets, uint32_t ways, uint32_t revision, uint32_t limit,
+                       const uint32_t *tracked, size_t tracked_count,
+                       const uint32_t *runs, size_t nodes,
+                       const uint32_t *accesses, size_t access_count,
+                       const uint32_t *edges, size_t edge_numbers,
+                       uint64_t *result, size_t result_words,
+                       uint64_t *work, size_t work_words,
+                       size_t *states);
+
+/* The units at each miss count of the first `states` states of a best case's table, or at each hit count, from 0 to the largest go to the front of `counts`, which is
+ * zero beyond them, and the largest to `*largest`. Each gives ESTIMATE_DONE, ESTIMATE_ROW or ESTIMATE_SPREAD_ROOM; a refusal writes nothing. */
+uint64_t estimate_best_miss_spread(const uint64_t *table, size_t words, size_t states, uint64_t *counts, size_t counts_room, uint64_t *largest);
+uint64_t estimate_best_hit_spread(const uint64_t *table, size_t words, size_t states, uint64_t *counts, size_t counts_room, uint64_t *largest);
 
 #ifdef __cplusplus
 }

@@ -35,6 +35,8 @@ static const struct call calls[] = {
     {"trace_list", answer_trace_list},
     {"listing", answer_listing},
     {"nightly", answer_nightly},
+    {"best", answer_best},
+    {"best_spread", answer_best_spread},
 };
 
 /* ---- What is kept for the call at hand ---- */

@@ -88,5 +88,7 @@ bool answer_trace_read(const struct words *words);
 bool answer_trace_list(const struct words *words);
 bool answer_listing(const struct words *words);
 bool answer_nightly(const struct words *words);
+bool answer_best(const struct words *words);
+bool answer_best_spread(const struct words *words);
 
 #endif

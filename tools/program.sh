@@ -1,4 +1,4 @@
-# What tools/curve, tools/cycles, tools/trace and tools/listing share; sourced by them. A command sets `usage` first, what `--help` prints.
+# What tools/curve, tools/cycles, tools/floor, tools/trace and tools/listing share; sourced by them. A command sets `usage` first, what `--help` prints.
 
 # the program's own arguments, which a command may set
 words=()
@@ -50,6 +50,7 @@ rule() {
     13) echo 'a damaged block at that place: its check, its zeros, its count or its number is wrong' ;;
     14) echo 'no listing: a token that belongs nowhere, one missing or left over, a count outside 1..64, or branches and loops more than 8 deep in each other' ;;
     15) echo 'a listing whose graph has more than 64 nodes or 4,096 accesses' ;;
+    17) echo 'an accessed block that is not tracked' ;;
     21) echo 'more than 1,024 blocks' ;;
     esac
 }

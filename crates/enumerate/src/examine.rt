@@ -16,7 +16,12 @@ use crate::report::Report;
 use crate::sequences::count_each;
 use crate::sequences::count_misses;
 use crate::sequences::sequences_in;
+use crate::sure::hold_best;
+use crate::sure::number_expected;
+use crate::sure::number_of;
+use crate::sure::states_of;
 use crate::table::total;
+use best::analyse_best;
 use estimate::analyse;
 use longest::longest_path;
 use rules::Cache;
@@ -50,9 +55,10 @@ fn all_tracked(tracked: &[u32], accesses: &[u32]) -> bool {
     true
 }
 
-// By misses alone, on every core.
-fn examine_cycles(
+// By misses alone, on every core; and the best case's table, of misses and of hits.
+fn examine_totals(
     table: &[u64],
+    best: &[u64],
     told: Told,
     counts: &[u64; 256],
     path: Path,
@@ -60,13 +66,15 @@ fn examine_cycles(
 ) -> Report {
     let mut totals: [u64; 16] = [0; 16];
     count_misses(&mut totals, counts);
-    hold_cycles(table, told, &totals, path, report)
+    let sure = hold_best(best, &totals, path, report);
+    hold_cycles(table, told, &totals, path, sure)
 }
 
 // The counted choice sequences of a path. On a straight run whose blocks are all tracked the units above a budget are tight, and exact
 // where nothing is set aside.
 fn examine_counts(
     table: &[u64],
+    best: &[u64],
     told: Told,
     counts: &[u64; 256],
     path: Path,
@@ -75,7 +83,7 @@ fn examine_counts(
     let walked = report.walked(path.accesses, path.all);
     let counted = walked.compared(sequences_in(counts) == path.all);
     let above = hold_above(table, told.aside, counts, path, counted);
-    let cycles = examine_cycles(table, told, counts, path, above);
+    let cycles = examine_totals(table, best, told, counts, path, above);
     if path.tight {
         if told.aside == 0 {
             return hold_exact(table, counts, path.all, cycles);
@@ -88,6 +96,7 @@ fn examine_counts(
 fn examine_from(
     kind: u32,
     table: &[u64],
+    best: &[u64],
     told: Told,
     cache: Cache,
     tracked: &[u32],
@@ -113,12 +122,13 @@ fn examine_from(
         cache.revision,
         all,
     );
-    examine_counts(table, told, &counts, path, report)
+    examine_counts(table, best, told, &counts, path, report)
 }
 
 // The same path from an empty cache and from used ones: no more than safe is promised then.
 fn examine_used(
     table: &[u64],
+    best: &[u64],
     told: Told,
     cache: Cache,
     tracked: &[u32],
@@ -128,15 +138,26 @@ fn examine_used(
     let mut done = report;
     let mut kind: u32 = 0;
     while kind < 4 {
-        done = examine_from(kind, table, told, cache, tracked, accesses, false, done);
+        done = examine_from(
+            kind,
+            table,
+            best,
+            told,
+            cache,
+            tracked,
+            accesses,
+            false,
+            done,
+        );
         kind += 1;
     }
     done
 }
 
-// The path as the start says: from an empty cache, or from all.
+// The path as the start says: from an empty cache, or from all, of which nothing is promised in the best case.
 fn examine_path(
     table: &[u64],
+    best: &[u64],
     told: Told,
     cache: Cache,
     tracked: &[u32],
@@ -149,14 +170,25 @@ fn examine_path(
     }
     let start = cache.start;
     match start {
-        Start::Cold => examine_from(0, table, told, cache, tracked, accesses, tight, report),
-        Start::Warm => examine_used(table, told, cache, tracked, accesses, report),
+        Start::Cold => examine_from(
+            0,
+            table,
+            best,
+            told,
+            cache,
+            tracked,
+            accesses,
+            tight,
+            report,
+        ),
+        Start::Warm => examine_used(table, &[], told, cache, tracked, accesses, report),
     }
 }
 
 // The path that is the first `length` accesses of `path`.
 fn examine_first(
     table: &[u64],
+    best: &[u64],
     told: Told,
     cache: Cache,
     tracked: &[u32],
@@ -169,7 +201,16 @@ fn examine_first(
         return report.compared(false);
     }
     let end = length as usize;
-    examine_path(table, told, cache, tracked, &path[0..end], tight, report)
+    examine_path(
+        table,
+        best,
+        told,
+        cache,
+        tracked,
+        &path[0..end],
+        tight,
+        report,
+    )
 }
 
 // Whether a graph is a straight run whose blocks are all tracked.
@@ -183,6 +224,7 @@ fn is_tight(nodes: usize, tracked: &[u32], accesses: &[u32]) -> bool {
 // A set of nodes, where it is a path.
 fn examine_set(
     table: &[u64],
+    best: &[u64],
     told: Told,
     cache: Cache,
     tracked: &[u32],
@@ -205,12 +247,23 @@ fn examine_set(
     let mut path: [u32; 16] = [0; 16];
     let length = collect(&mut path, chosen, runs, accesses);
     let tight = is_tight(nodes, tracked, accesses);
-    examine_first(table, told, cache, tracked, &path, length, tight, report)
+    examine_first(
+        table,
+        best,
+        told,
+        cache,
+        tracked,
+        &path,
+        length,
+        tight,
+        report,
+    )
 }
 
 // Every path.
 fn examine_paths(
     table: &[u64],
+    best: &[u64],
     told: Told,
     cache: Cache,
     tracked: &[u32],
@@ -225,6 +278,7 @@ fn examine_paths(
     while chosen < sets {
         done = examine_set(
             table,
+            best,
             told,
             cache,
             tracked,
@@ -243,6 +297,7 @@ fn examine_paths(
 fn examine_result(
     result: &[u64],
     states: usize,
+    best: &[u64],
     told: Told,
     cache: Cache,
     limit: u32,
@@ -259,7 +314,17 @@ fn examine_result(
     let table = &result[0..end];
     let few = report.compared(states <= limit as usize);
     let whole = few.compared(total(table) == WHOLE);
-    let paths = examine_paths(table, told, cache, tracked, runs, accesses, edges, whole);
+    let paths = examine_paths(
+        table,
+        best,
+        told,
+        cache,
+        tracked,
+        runs,
+        accesses,
+        edges,
+        whole,
+    );
     paths.compared(paths.longest == told.longest)
 }
 
@@ -271,6 +336,14 @@ fn accesses_of(answer: Length) -> u64 {
     }
 }
 
+// The units of a table total 2^48, or there is no table.
+fn is_whole(table: &[u64]) -> bool {
+    if table.len() == 0 {
+        return true;
+    }
+    total(table) == WHOLE
+}
+
 // What the calls told of a graph.
 fn told_of(aside: Units, longest: u64) -> Told {
     Told {
@@ -279,8 +352,9 @@ fn told_of(aside: Units, longest: u64) -> Told {
     }
 }
 
-// The graph call with one state limit.
-fn examine(
+// The graph call with one state limit, beside the best case's table.
+fn examine_worst(
+    best: &[u64],
     cache: Cache,
     limit: u32,
     tracked: &[u32],
@@ -291,7 +365,6 @@ fn examine(
 ) -> Report {
     let mut result: [u64; 320] = [0; 320];
     let mut work: [u64; 25920] = [0; 25920];
-    let called = report.called();
     let longest = accesses_of(longest_path(cache, limit, tracked, runs, accesses, edges));
     match analyse(
         cache,
@@ -306,6 +379,7 @@ fn examine(
         Outcome::Finished(states, aside) => examine_result(
             &result,
             states,
+            best,
             told_of(aside, longest),
             cache,
             limit,
@@ -313,10 +387,72 @@ fn examine(
             runs,
             accesses,
             edges,
-            called,
+            report,
         ),
-        Outcome::Refused(_) => called.compared(false),
+        Outcome::Refused(_) => report.compared(false),
     }
+}
+
+// The best case's table is the first `states` states of `result`; none where it is refused.
+fn examine_best(
+    result: &[u64],
+    states: usize,
+    cache: Cache,
+    limit: u32,
+    tracked: &[u32],
+    runs: &[u32],
+    accesses: &[u32],
+    edges: &[u32],
+    report: Report,
+) -> Report {
+    if result.len() / 5 < states {
+        return report.compared(false);
+    }
+    let end = states * 5;
+    let best = &result[0..end];
+    let few = report.compared(states <= limit as usize);
+    let whole = few.compared(is_whole(best));
+    examine_worst(best, cache, limit, tracked, runs, accesses, edges, whole)
+}
+
+// Both tables with one state limit. The best case is asked of an empty cache, however this one is found.
+fn examine(
+    cache: Cache,
+    limit: u32,
+    tracked: &[u32],
+    runs: &[u32],
+    accesses: &[u32],
+    edges: &[u32],
+    report: Report,
+) -> Report {
+    let mut result: [u64; 320] = [0; 320];
+    let mut work: [u64; 25920] = [0; 25920];
+    let called = report.called();
+    let answer = analyse_best(
+        cache.sets,
+        cache.ways,
+        cache.revision,
+        limit,
+        tracked,
+        runs,
+        accesses,
+        edges,
+        &mut result,
+        &mut work,
+    );
+    let expected = number_expected(cache, all_tracked(tracked, accesses));
+    let answered = called.compared(number_of(answer) == expected);
+    examine_best(
+        &result,
+        states_of(answer),
+        cache,
+        limit,
+        tracked,
+        runs,
+        accesses,
+        edges,
+        answered,
+    )
 }
 
 // The graph call with a wide state limit and with narrow ones.

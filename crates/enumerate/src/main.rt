@@ -9,7 +9,9 @@
 // - on a straight run whose blocks are all tracked: the units above exceed that share by no more than what is set aside;
 // - the last two again for every core and for cycle budgets in place of misses: a path's exact cycles are held to the units above the
 //   cycle budget, asked with the accesses of the graph's longest path;
-// - the longest path has as many accesses as the longest of all paths.
+// - the longest path has as many accesses as the longest of all paths;
+// - from an empty cache of the first revision, where every access is tracked, for every path and number: the units of the best case's table with more misses than the
+//   number are at most the share of the sequences with more, and the same of hits; it totals 2^48 too, and is refused where it has to be.
 //
 // From a used cache only the share of the sequences with more misses, or cycles, is held to the units: that is all that is promised then.
 //
@@ -30,6 +32,7 @@ mod promises;
 mod report;
 mod sequences;
 mod straight;
+mod sure;
 mod sweep;
 mod table;
 

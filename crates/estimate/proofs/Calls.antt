@@ -13,6 +13,7 @@ use Rattle.rules.specs.declared.Verdict.the-variants.{Accepted, Refused}
 use Rattle.rules.specs.declared.Outcome.the-variants.{Finished, Refused as RefusedOutcome}
 use Rattle.rules.specs.Units.{units}
 use Rattle.rules.specs.Input.{Input, inputOf, nodes}
+use Rattle.rules.specs.AnyTable.{finished as finishedAny}
 use Rattle.rules.specs.Graph.{Worked, tableAt, worked, finished}
 use Rattle.rules.specs.Refusals.{verdict, outcome}
 use Rattle.rules.proofs.Refusals.{Checked}
@@ -66,13 +67,13 @@ module _ (c : Cache) (K : ℕ) (ts ns bs es rs ws : List ℕ) where
 module _ (c : Cache) (K : ℕ) (ts ns bs es rs ws : List ℕ) (a : ℕ) (T : List State) (some : 0 < length ns)
     (done : workedIn (length ns) a T ≡ worked (inputOf c K ts ns bs es) (length ns)) where
   pub last-table : tableIn (length ns - 1) T ≡ finished (handed c K ts ns bs es rs ws) .table
-  unfolding finished
+  unfolding finishedAny
   last-table =
       sym (tablesIn-at (length ns) T (length ns - 1) (omega arith))
       ∙ ap (λ (d : Worked). tableAt d (length ns - 1)) (done ∙ same-worked c K ts ns bs es (length rs / 5) (length ws / 5) (length ns))
 
   pub last-aside : a ≡ finished (handed c K ts ns bs es rs ws) .aside
-  unfolding finished
+  unfolding finishedAny
   last-aside = ap (λ (d : Worked). d .aside) (done ∙ same-worked c K ts ns bs es (length rs / 5) (length ws / 5) (length ns))
 
 -- which the result room has room for

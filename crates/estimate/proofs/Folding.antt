@@ -17,6 +17,7 @@ use Rattle.rules.specs.declared.Pair.{Pair}
 use Rattle.rules.specs.declared.Units.{Units}
 use Rattle.rules.specs.Units.{more, addOf}
 use Rattle.rules.specs.Ordered.{remove, best, bestFrom}
+use Rattle.rules.specs.AnyTable.{choice as choiceAny, fold as foldAny, foldAt as foldAtAny, folded as foldedAny}
 use Rattle.rules.specs.Table.{unitsOf, order, noState, stateAt, rising, add, Work}
 use Rattle.rules.specs.Fold.{fewer, sharing, apart, closer, choice, meet, changed, foldAt, fold, foldsOf, folded}
 use Rattle.rules.proofs.Lists.{length-remove, best-lt}
@@ -234,7 +235,7 @@ module _ (T : List State) (n : ℕ) (room : n ≤ length T) (i : ℕ) (among : i
   -- the two searches have found document 01's choice
   pub choice-found : (k most near j : ℕ) → s ≡ stateAt T i → best fewer (take n T) ≡ i → j + 1 ≡ n → Nearest s R k most near j
       → record { fewest = i; partner = k } ≡ choice (take n T)
-  unfolding choice
+  unfolding choiceAny
   choice-found k most near j d b e h =
       rw (b, getD-take n T i noState among, ← d, search-end (closer s) R k j (omega (arith, long)) (h .search))
 
@@ -242,14 +243,14 @@ module _ (T : List State) (n : ℕ) (room : n ≤ length T) (i : ℕ) (among : i
 
 module _ (X : List State) (n : ℕ) (long : length X ≡ n) (some : 2 ≤ n) (p : Pair) (chosen : p ≡ choice X) where
   pub fewest-within : p .fewest < n
-  unfolding choice
+  unfolding choiceAny
   fewest-within = rw chosen (omega (arith, best-lt fewer X (omega arith)))
 
   one-left : suc (length (remove (p .fewest) X)) ≡ n
   one-left = length-remove (p .fewest) X (omega (arith, fewest-within)) ∙ long
 
   pub partner-within : p .partner < n - 1
-  unfolding choice
+  unfolding choiceAny
   partner-within =
       let found : p .partner ≡ best (closer (stateAt X (p .fewest))) (remove (p .fewest) X) = rw chosen refl in
       rw found (omega (arith, one-left, best-lt (closer (stateAt X (p .fewest))) (remove (p .fewest) X) (omega (arith, one-left))))
@@ -293,7 +294,7 @@ module _ (T : List State) (n : ℕ) (room : n ≤ length T) (some : 2 ≤ n) (p 
 
       pub fold-stands : (a r b : ℕ) (T′ : List State) → Added (m ∷ []) (n - 2) r T₂ T′ → b ≡ more a (changed s m + changed t m)
           → Stands (fold (record { table = take n T; aside = a })) r b T′
-      unfolding fold foldAt
+      unfolding foldAny foldAtAny
       fold-stands a r b T′ h q = record { count = h .count ∙ ap length table; table = h .table ∙ table; aside = q ∙ aside }
         where
           table : add (m ∷ []) (take (n - 2) T₂) ≡ fold (record { table = take n T; aside = a }) .table
@@ -325,7 +326,7 @@ module _ (K : ℕ) (some : 1 ≤ K) where
 
   -- with more than K states, one fold and then the rest
   folded-on : (w : Work) → K < length (w .table) → folded K w ≡ folded K (fold w)
-  unfolding folded
+  unfolding foldedAny
   folded-on w l = go (length (w .table)) refl
     where
       go : (n : ℕ) → length (w .table) ≡ n → foldsOf n (leb n K) K w ≡ folded K (fold w)
@@ -336,7 +337,7 @@ module _ (K : ℕ) (some : 1 ≤ K) where
 
 -- with no more than K states nothing is folded
 folded-enough : (K : ℕ) (w : Work) → length (w .table) ≤ K → folded K w ≡ w
-unfolding folded
+unfolding foldedAny
 folded-enough K w l = go (length (w .table)) (le-leb (length (w .table)) K l)
   where
     go : (n : ℕ) → leb n K ≡ true → foldsOf n (leb n K) K w ≡ w
@@ -358,7 +359,7 @@ module _ (K n r a b : ℕ) (T T′ : List State) (room : n ≤ length T) (some :
       omega (arith, h .count, length-take-le n T room, fold-shorter (workOf n a T) (omega (arith, length-take-le n T room)))
 
   pub folding-rises : rising (take n T) ≡ true → rising (take r T′) ≡ true
-  unfolding fold
+  unfolding foldAny
   folding-rises q =
       rw (h .table) (rising-is (fold (workOf n a T) .table) (rising-fold (choice (take n T)) (workOf n a T) (rising-so (take n T) q)))
 

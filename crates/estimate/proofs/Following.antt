@@ -21,6 +21,7 @@ use Rattle.basics.proofs.Sums.{sum-append}
 use Rattle.rules.specs.Units.{whole, more}
 use Rattle.rules.specs.Contents.{bit, hits, heldBelow, held, size, without}
 use Rattle.rules.specs.Ordered.{insertAll}
+use Rattle.rules.specs.AnyTable.{access as accessAny, add as addAny}
 use Rattle.rules.specs.Table.{unitsOf, rising, present, add, noState, stateAt}
 use Rattle.rules.specs.Step.{atRisk, restOf, miss, successors, leftOver, access, accessAside}
 use Rattle.rules.specs.Shape.{Every}
@@ -36,7 +37,7 @@ use Rattle.estimate.specs.Following.{fuller, missedFrom, lostAt, Workabl
 -- ---- adding in parts
 
 pub added-nothing : (n : ℕ) (T : List State) → n ≤ length T → Added [] n n T T
-unfolding add insertAll
+unfolding addAny insertAll
 added-nothing n T room = record { count = sym (length-take-le n T room); table = refl }
 
 module _ (S : List State) (n m : ℕ) (T T₁ : List State) (a : Added S n m T T₁) where
@@ -194,7 +195,7 @@ module _ (N : ℕ) (x : Target) (S : List State) where
   gathered i = add (flatMap (successors N x) (take i S)) []
 
   pub gathered-none : gathered 0 ≡ []
-  unfolding add insertAll flatMap
+  unfolding addAny insertAll flatMap
   gathered-none = refl
 
   pub gathered-rising : (i : ℕ) → rising (gathered i) ≡ true
@@ -219,7 +220,7 @@ module _ (N : ℕ) (x : Target) (S : List State) where
       short = rw (length-take i S) (min-le-left i (length S))
 
   pub gathered-all : (m : ℕ) → length S ≤ m → gathered m ≡ access N x S
-  unfolding access
+  unfolding accessAny
   gathered-all m l = ap (λ (U : List State). add (flatMap (successors N x) U) []) (take-all m S l)
 
   -- the set-aside count so far
@@ -238,7 +239,6 @@ module _ (N : ℕ) (x : Target) (S : List State) where
       sum = omega (arith, sum-append (leftOver N x) (take i S) (s ∷ []))
 
   pub aside-all : (a m : ℕ) → length S ≤ m → asideTo a m ≡ more a (accessAside N x S)
-  unfolding accessAside
   aside-all a m l = ap (λ (U : List State). more a (sumOver (leftOver N x) U)) (take-all m S l)
 
 pub workable-at : (N : ℕ) (x : Target) (S : List State) → Every (Workable N x) S → (i : ℕ) → Workable N x (stateAt S i)

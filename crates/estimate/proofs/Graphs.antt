@@ -16,6 +16,7 @@ use Rattle.rules.specs.Units.{whole}
 use Rattle.rules.specs.Contents.{among}
 use Rattle.rules.specs.declared.Filled.{Filled}
 use Rattle.rules.specs.Filling.{filledAt, evenly}
+use Rattle.rules.specs.AnyTable.{enter as enterAny, joinAll as joinAllAny, node as nodeAny, worked as workedAny}
 use Rattle.rules.specs.Table.{state, unitsOf, noState, Work}
 use Rattle.rules.specs.Shape.{Every, Shaped, Table}
 use Rattle.rules.specs.Fold.{folded}
@@ -73,7 +74,7 @@ module _ (K j a₀ : ℕ) (T₀ : List State) where
       → take (j * 64) (tableOf ws) ≡ take (j * 64) T₀ → joinAll K (workedIn j a₀ T₀) R (workAt (j * 64) n a ws) ≡ W
       → InPlace (folded K (record { table = join (take n (drop (j * 64) (tableOf ws))) (take m (drop (p * 64) (tableOf ws))); aside = a })) (j * 64) n′ a′ (tableOf ws) (tableOf ws′)
       → joinAll K (workedIn j a₀ T₀) R′ (workAt (j * 64) n′ a′ ws′) ≡ W
-  unfolding joinAll
+  unfolding joinAllAny
   join-turn R R′ p n a n′ a′ m ws ws′ W r l c e h g =
       ap (joinAll K (workedIn j a₀ T₀) R′)
       (stands-work _ (j * 64) n′ a′ ws′ (tableOf ws) g
@@ -83,7 +84,7 @@ module _ (K j a₀ : ℕ) (T₀ : List State) where
   -- all are joined
   pub joined : (R : List ℕ) (n a : ℕ) (ws : List ℕ) (W : Work) → R ≡ [] → n ≤ 64 → j < 64 → 25920 ≤ length ws
       → take (j * 64) (tableOf ws) ≡ take (j * 64) T₀ → joinAll K (workedIn j a₀ T₀) R (workAt (j * 64) n a ws) ≡ W → InPlace W (j * 64) n a T₀ (tableOf ws)
-  unfolding joinAll
+  unfolding joinAllAny
   joined R n a ws W r few node long e h =
       rw (← h, r)
       record {
@@ -93,7 +94,7 @@ module _ (K j a₀ : ℕ) (T₀ : List State) where
 
   -- a node without predecessors starts from the start
   pub enter-none : (F : Filled) (R : List ℕ) (T : List State) → R ≡ [] → 5184 ≤ length T₀ → j < 64 → T ≡ set T₀ (j * 64) (state 0 0 F whole) → InPlace (enter K F (workedIn j a₀ T₀) R) (j * 64) 1 a₀ T₀ T
-  unfolding enter
+  unfolding enterAny
   enter-none F R T r long node q =
       rw r
       record {
@@ -116,7 +117,7 @@ module _ (K j a₀ : ℕ) (T₀ : List State) where
       → tableOf ws₁ ≡ paste T₀ (j * 64) (drop (p * 64) T₀) m
       → InPlace (joinAll K (workedIn j a₀ (tableOf ws₁)) R′ (workAt (j * 64) m a₀ ws₁)) (j * 64) n a (tableOf ws₁) T
       → InPlace (enter K F (workedIn j a₀ T₀) R) (j * 64) n a T₀ T
-  unfolding enter
+  unfolding enterAny
   enter-some F R R′ p m n a ws ws₁ T w r l node long c q g =
       rw r
       record {
@@ -234,7 +235,7 @@ unfolding offset
 offset-start lengths = refl
 
 pub nodes-start : (i : Input) (T : List State) → workedIn 0 0 T ≡ worked i 0
-unfolding worked tablesIn
+unfolding workedAny tablesIn
 nodes-start i T = refl
 
 module _ (i : Input) (ok : Checked i) (j : ℕ) (l : j < nodes i) where
@@ -268,7 +269,7 @@ module _ (i : Input) (ok : Checked i) (j : ℕ) (l : j < nodes i) where
   pub nodes-next : (a b : ℕ) (l : Last) (T T′ : List State) → workedIn j a T ≡ worked i j → l ≡ lastBefore (lastsTo i j) (predecessors (edgesOf (i .edges)) j)
       → NodeDone (run (i .ways) (i .sets) (i .limit) (i .tracked) l (runOf i j) (enter (i .limit) (startOf (cacheOf i)) (workedIn j a T) (predecessors (edgesOf (i .edges)) j))) j b T T′
       → workedIn (suc j) b T′ ≡ worked i (suc j)
-  unfolding worked node atStart tablesIn
+  unfolding workedAny nodeAny atStart tablesIn
   nodes-next a b l T T′ d e h =
       ap₂ (λ (X : List (List State)) (b : ℕ). record { tables = X; aside = b })
       (ap₂ (λ (X : List (List State)) (Y : List State). X ++ (Y ∷ [])) (tablesIn-kept j (j * 64) T T′ (omega arith) (h .before)) (h .table)) (h .aside)

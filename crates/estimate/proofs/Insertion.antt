@@ -15,6 +15,7 @@ use Rattle.basics.proofs.Bools.{and-left, and-right}
 use Rattle.rules.specs.declared.State.{State}
 use Rattle.rules.specs.Ordered.{Order, before, same, after, byNumber, thenBy, byTwo, isBefore, insert, inserted, insertAll}
 use Rattle.rules.specs.Filling.{sameFilled}
+use Rattle.rules.specs.AnyTable.{add as addAny}
 use Rattle.rules.specs.Table.{unitsOf, order, rising, plus, present, add, noState, stateAt}
 use Rattle.rules.specs.Shape.{Every}
 use Rattle.rules.proofs.Ordered.{number-cases, turned, state-orders, order-after}
@@ -230,14 +231,14 @@ module _ (s : State) (n at : ℕ) (T T′ : List State) (room : n ≤ length T) 
 -- ---- states of 0 units vanish
 
 pub added-one : (s : State) (n r : ℕ) (T T′ : List State) → (unitsOf s ≡ 0 → ⊥) → Inserted s n r T T′ → Added (s ∷ []) n r T T′
-unfolding add insertAll
+unfolding addAny insertAll
 added-one s n r T T′ some h = record { count = h .count ∙ ap length (sym is); table = h .table ∙ sym is }
   where
     is : insertAll order plus (present (s ∷ [])) (take n T) ≡ insert order plus s (take n T)
     is = rw (ne-eqb (unitsOf s) 0 some)
 
 pub added-none : (s : State) (n : ℕ) (T : List State) → n ≤ length T → unitsOf s ≡ 0 → Added (s ∷ []) n n T T
-unfolding add insertAll
+unfolding addAny insertAll
 added-none s n T room none = record { count = sym (length-take-le n T room) ∙ ap length (sym is); table = sym is }
   where
     is : insertAll order plus (present (s ∷ [])) (take n T) ≡ take n T

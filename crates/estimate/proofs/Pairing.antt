@@ -14,6 +14,7 @@ use lib.Seq.{drop-cons, getD-drop, getD-take}
 use borrow.Author.Tests.{eq-eqb, ne-eqb}
 use Rattle.rules.specs.declared.State.{State}
 use Rattle.rules.specs.Ordered.{insertAll}
+use Rattle.rules.specs.AnyTable.{add as addAny, fromFront as fromFrontAny, join as joinAny, paired as pairedAny, walk as walkAny}
 use Rattle.rules.specs.Table.{unitsOf, rising, add, noState, stateAt}
 use Rattle.rules.specs.Fold.{meet}
 use Rattle.rules.specs.Join.{Match, matched, paired, less, leftAfter, placeAfter, walk, fromFront, join}
@@ -102,7 +103,7 @@ module _ (S : List State) (u : ℕ) (f : Front) where
 
 -- steps beyond those that are enough change nothing
 walk-enough : (n k i j : ℕ) (S T : List State) → length S + length T ≤ n → length S + length T ≤ k → walk n i j S T ≡ walk k i j S T
-unfolding walk
+unfolding walkAny
 walk-enough zero zero i j S T a b = refl
 walk-enough zero (suc k) i j [] T a b = refl
 walk-enough zero (suc k) i j (s ∷ S) T a b = absurd (omega arith)
@@ -118,12 +119,12 @@ walk-enough (suc n) (suc k) i j (s ∷ S) (t ∷ T) a b =
 
 -- there is no pair where one of them is used up
 walk-no-left : (n i j : ℕ) (T : List State) → walk n i j [] T ≡ []
-unfolding walk
+unfolding walkAny
 walk-no-left zero i j T = refl
 walk-no-left (suc n) i j T = refl
 
 walk-no-right : (n i j : ℕ) (S : List State) → walk n i j S [] ≡ []
-unfolding walk
+unfolding walkAny
 walk-no-right zero i j S = refl
 walk-no-right (suc n) i j [] = refl
 walk-no-right (suc n) i j (s ∷ S) = refl
@@ -136,7 +137,7 @@ pairsFrom i j S T = walk (length S + length T) i j S T
 walk-next : (i j u : ℕ) (s t : State) (S T : List State) → u ≡ min (unitsOf s) (unitsOf t)
     → pairsFrom i j (s ∷ S) (t ∷ T)
     ≡ record { left = i; right = j; units = u } ∷ pairsFrom (placeAfter u s i) (placeAfter u t j) (leftAfter u s S) (leftAfter u t T)
-unfolding walk
+unfolding walkAny
 walk-next i j u s t S T e =
     let steps : suc (length S) + suc (length T) ≡ suc (length S + suc (length T)) = omega arith in
     ap (λ (n : ℕ). walk n i j (s ∷ S) (t ∷ T)) steps
@@ -163,7 +164,7 @@ pub record SoFar (S T : List State) (a b : Front) (n : ℕ) (X : List State) : T
   pub whole : add (map (matched S T) (toCome a b S T)) X ≡ join S T
 
 so-far-none : (S T : List State) (a b : Front) → a ≡ frontAt S 0 → b ≡ frontAt T 0 → SoFar S T a b 0 []
-unfolding join paired fromFront
+unfolding joinAny pairedAny fromFrontAny
 so-far-none S T a b p q = rw (p, q) start
   where
     start : SoFar S T (frontAt S 0) (frontAt T 0) 0 []
@@ -179,7 +180,7 @@ so-far-none S T a b p q = rw (p, q) start
 
 module _ {S T : List State} {a b : Front} {n : ℕ} {X : List State} (g : SoFar S T a b n X) where
   none-to-come : toCome a b S T ≡ [] → X ≡ join S T
-  unfolding add insertAll
+  unfolding addAny insertAll
   none-to-come e = ap (λ (P : List Match). add (map (matched S T) P) X) (sym e) ∙ g .whole
 
   left-used-up : length S ≤ a .at → X ≡ join S T

@@ -14,6 +14,7 @@ use Rattle.rules.specs.declared.State.{State}
 use Rattle.rules.specs.Units.{whole, more}
 use Rattle.rules.specs.Contents.{among, targetOf}
 use Rattle.rules.specs.Refusals.{setCounts}
+use Rattle.rules.specs.AnyTable.{advance as advanceAny, run as runAny, total as totalAny}
 use Rattle.rules.specs.Table.{rising, total, unitsOf, Work}
 use Rattle.rules.specs.Shape.{Every, Aimed, Shaped, Table}
 use Rattle.rules.specs.Step.{access, accessAside}
@@ -54,7 +55,7 @@ settled-from K X X′ a a′ at m b T T₂ T₃ p q low e g =
 
 -- no state has more units than all have together
 unit-most : (T : List State) (n : ℕ) → total T ≤ n → Every (λ s. unitsOf s ≤ n) T
-unfolding total
+unfolding totalAny
 unit-most [] n h = tt
 unit-most (s ∷ T) n h = (omega arith, unit-most T n (omega arith))
 
@@ -89,7 +90,7 @@ joined-fits S T r T₀ T₁ l m g = (omega (arith, g .count, length-join S T), r
 pub advanced : (N K : ℕ) (x y : Target) (w : Work) (at r a m b : ℕ) (T T₁ T₂ : List State) → x ≡ y → at ≤ 4096 → InScratch (access N x (w .table)) r T T₁
     → a ≡ more (w .aside) (accessAside N x (w .table))
     → InPlace (folded K (record { table = take r (drop 4096 T₁); aside = a })) at m b T₁ T₂ → InPlace (advance N K y w) at m b T T₂
-unfolding advance
+unfolding advanceAny
 advanced N K x y w at r a m b T T₁ T₂ p low g q h = rw (← p) (settled-from K _ _ _ _ at m b T T₁ T₂ (g .table) q low (g .slots) h)
 
 -- ---- accesses one after the other
@@ -101,11 +102,11 @@ module _ (N Z K : ℕ) (ts bs : List ℕ) where
 
   pub ran-next : (i : ℕ) (k : Last) (v : Work) (l : Last) (w : Work) (b : ℕ) → i < length bs → b ≡ getD bs i 0 → Ran i k v l w
       → Ran (suc i) (block b) (advance N K (targetOf Z ts k b) v) l w
-  unfolding run
+  unfolding runAny
   ran-next i k v l w b here e h = rw e (sym (ap (λ (cs : List ℕ). run N Z K ts k cs v) (drop-cons bs i 0 here))) ∙ h
 
   ran-all : (i : ℕ) (k : Last) (v : Work) (l : Last) (w : Work) → length bs ≤ i → Ran i k v l w → v ≡ run N Z K ts l bs w
-  unfolding run
+  unfolding runAny
   ran-all i k v l w past h = sym (ap (λ (cs : List ℕ). run N Z K ts k cs v) (drop-of-length-le bs {i = i} past)) ∙ h
 
 -- the work at a place is what stands there

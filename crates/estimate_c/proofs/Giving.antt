@@ -47,7 +47,7 @@ use denote.Triple.Entry.{Args, onEntry}
 use denote.Triple.Walked.{Stays, stay-none-slice, stay-none, gave-ref, walkOf, AllGo, goes-none-slice, goes-none, goes-gave-ref}
 use Rattle.rules.specs.declared.State.{State}
 use Rattle.rows.proofs.Asking.{slots, Numbers, numbers, operands, Form, Params, Question, Answered, to-question}
-use Rattle.rows.proofs.LentRow.{StateT, RowT, slice, lends}
+use Rattle.rows.proofs.LentRow.{document-01, StateT, RowT, slice, lends}
 use Rattle.rows.proofs.Walk.{Claim, claims, Keeps, Alive, Brought, asks, leaves, within, known, proves}
 use Rattle.estimate_c.specs.Given.{ValueGiven}
 use Rattle.estimate_c.proofs.Given.{value-given}
@@ -78,15 +78,15 @@ module _ {M : Type 1} {𝓤 : URA M} {H : Heap 𝓤} {A : Atoms 𝓤} {K : Type 
   pub reads : K → (𝓣 : Tables 𝓤 H) (f : Form) → Keeps 𝓤 H A (Question f) (Answered f) (𝓣 .C g) → (a : Args (Question f .signature) (κ, tt))
       → ent 𝓤 (emp 𝓤) (sem 𝓤 H A (owns (typesAt (slots 1 (f .n)) (κ, tt)) (a .1) (to-question f 𝓤 H A (κ, tt) (q, tt) a .4 .1)))
       → (Rs : List RattleType) (b : Denots Rs) (vs : Valss Rs)
-      → Opds K W (Brought 𝓤 H A (Question f) (Answered f) (to-question f 𝓤 H A (κ, tt) (q, tt) a) ∷ ‵ (owns (RowT κ ∷ Rs) (a .0, b) (slice-vals (a .0), vs)) ∷ Γ) En xs
+      → Opds K W (Brought 𝓤 H A (Question f) (Answered f) (to-question f 𝓤 H A (κ, tt) (q, tt) a) ∷ ‵ (owns (RowT document-01 κ ∷ Rs) (a .0, b) (slice-vals (a .0), vs)) ∷ Γ) En xs
       (passed 𝓤 H A (Question f .signature) (to-question f 𝓤 H A (κ, tt) (q, tt) a))
       → ((v : Val) (r : f .E .D) → r ≡ f .answer (now (a .0)) (numbers (κ, tt) (f .n) (a .1)) → Is (row (f .E)) r (v ∷ [])
-      → Seq K W (‵ (row (f .E) .own r (v ∷ [])) ∷ ‵ (flft κ q) ∷ ‵ (owns (RowT κ ∷ Rs) (a .0, b) (slice-vals (a .0), vs)) ∷ Γ) (lands (𝓣 .C) (𝓣 .Λ) En d v rest p))
-      → Seq K W (‵ (flft κ q) ∷ ‵ (owns (RowT κ ∷ Rs) (a .0, b) (slice-vals (a .0), vs)) ∷ Γ) (runs (𝓣 .C) (𝓣 .Λ) En (seq (call g xs d) rest) p)
+      → Seq K W (‵ (row (f .E) .own r (v ∷ [])) ∷ ‵ (flft κ q) ∷ ‵ (owns (RowT document-01 κ ∷ Rs) (a .0, b) (slice-vals (a .0), vs)) ∷ Γ) (lands (𝓣 .C) (𝓣 .Λ) En d v rest p))
+      → Seq K W (‵ (flft κ q) ∷ ‵ (owns (RowT document-01 κ ∷ Rs) (a .0, b) (slice-vals (a .0), vs)) ∷ Γ) (runs (𝓣 .C) (𝓣 .Λ) En (seq (call g xs d) rest) p)
   reads t 𝓣 f met a made Rs b vs os k =
       let x : Bound 𝓤 H A (Question f .signature) = to-question f 𝓤 H A (κ, tt) (q, tt) a in
       nothing t $ move t (1 ∷ 0 ∷ []) $ join t $ use1 W (Alive 𝓤 H A (Question f) x) (id⊢ 𝓤 _) $ use0 W (‵ (owns (typesAt (slots 1 (f .n)) (κ, tt)) (a .1) (x .4 .1))) made $ move t (2 ∷ []) $
-      use1 W (‵ (RowT κ .own (a .0) (slice-vals (a .0))) ⊛ ‵ (owns (RowT κ ∷ Rs) (a .0, b) (slice-vals (a .0), vs))) (lends 𝓤 H A W κ Rs (a .0) b vs) $ split t $
+      use1 W (‵ (RowT document-01 κ .own (a .0) (slice-vals (a .0))) ⊛ ‵ (owns (RowT document-01 κ ∷ Rs) (a .0, b) (slice-vals (a .0), vs))) (lends document-01 𝓤 H A W κ Rs (a .0) b vs) $ split t $
       -- [what the row owns; what the parameters own; what the numbers own; the token]
       move t (0 ∷ 2 ∷ []) $ fjoin t $ move t (2 ∷ 0 ∷ []) $
       asks t 𝓣 (Question f) (Answered f) met x os (λ v r ws said is.
@@ -143,7 +143,7 @@ to-after κs (suc n) e = to-after κs n (e .1)
 module _ (f : Form) (given : f .E .D → ℕ → ValueGiven) where
   abbrev Exported : Ended
   Exported = record {
-    signature = record { lifetimes = 2; outlives = []; params = SliceRefOf (0 ∷ []) tt (plain (λ _. StateT)) (λ _. tt) ∷ slots-to (f .n); result = plain (λ _. u64) };
+    signature = record { lifetimes = 2; outlives = []; params = SliceRefOf (0 ∷ []) tt (plain (λ _. StateT document-01)) (λ _. tt) ∷ slots-to (f .n); result = plain (λ _. u64) };
     kept = (yes, all yes (slots-to (f .n)));
   }
 
@@ -151,7 +151,7 @@ module _ (f : Form) (given : f .E .D → ℕ → ValueGiven) where
   Exports κs a r e = record { number = r; value = now (to-after κs (f .n) (e .1)) } ≡ given (f .answer (now (a .0)) (numbers-to κs (f .n) (a .1))) (now (to-of κs (f .n) (a .1)))
 
   abbrev stayed : Stays (Exported .signature .params) (Exported .kept)
-  stayed = (stay-none-slice (0 ∷ []) tt (plain (λ _. StateT)) yes, stays-to (f .n))
+  stayed = (stay-none-slice (0 ∷ []) tt (plain (λ _. StateT document-01)) yes, stays-to (f .n))
 
   abbrev function : Name → Name → Fn
   function #ask #give = record {
@@ -159,7 +159,7 @@ module _ (f : Form) (given : f .E .D → ℕ → ValueGiven) where
     outlives = [];
     params = f .n + 2;
     locals =
-        local word valueLocal ∷ local slice valueLocal
+        local word valueLocal ∷ local (slice document-01) valueLocal
         ∷ (replicate (f .n) (local word valueLocal) ++ (local (tyRef (named 1) mut word) valueLocal ∷ local (layout (shape (f .E))) valueLocal ∷ local (tyRef erased mut word) valueLocal ∷ []));
     body =
         seq (call #ask (copy (place 1 []) ∷ operands (f .n) 2) (place (f .n + 3) []))
@@ -195,7 +195,7 @@ module _ (E : Declared) (L : enum-laws.Laws E) (few : Few (shape E)) (given : E 
     pub walk-one : Walk one given #ask #give
     walk-one M 𝓤 H A W 𝓣 known-ask known-give κs qs a are =
         let x : Bound 𝓤 H A (Exported one given .signature) = to-exported one given 𝓤 H A κs qs a in
-        qed W ((‵ (flft (κs .0) (qs .0)) ⊛ (‵ (flft (κs .1 .0) (qs .1 .0)) ⊛ ‵ ftrue)) ∷ ‵ (owns (RowT (κs .0) ∷ u64 ∷ ToT (κs .1 .0) ∷ []) (x .3) (x .4)) ∷ []) ∵ enter ! (𝓣 .C) (𝓣 .Λ) (function one given #ask #give) _ _ $
+        qed W ((‵ (flft (κs .0) (qs .0)) ⊛ (‵ (flft (κs .1 .0) (qs .1 .0)) ⊛ ‵ ftrue)) ∷ ‵ (owns (RowT document-01 (κs .0) ∷ u64 ∷ ToT (κs .1 .0) ∷ []) (x .3) (x .4)) ∷ []) ∵ enter ! (𝓣 .C) (𝓣 .Λ) (function one given #ask #give) _ _ $
         alloc1 ! (λ l₀. alloc1 ! (λ l₁. alloc1 ! (λ l₂. alloc1 ! (λ l₃. alloc1 ! (λ l₄. alloc1 ! (λ l₅. alloc0 ! $ params1 ! $
         pass1 ! (init ! 8 refl (tt, (tt, (record { fits = are .0 .0 .1 .0 }, tt)))) $ pass1 ! (init ! 6 refl (tt, record { fits = are .1 .0 .1 })) $ pass1 ! (init ! 4 refl (tt, tt)) $ pass0 ! $
         -- [_5; …; _4; …; the other locals; the tokens; what the parameters own]
@@ -227,7 +227,7 @@ module _ (E : Declared) (L : enum-laws.Laws E) (few : Few (shape E)) (given : E 
     pub walk-three : Walk three given #ask #give
     walk-three M 𝓤 H A W 𝓣 known-ask known-give κs qs a are =
         let x : Bound 𝓤 H A (Exported three given .signature) = to-exported three given 𝓤 H A κs qs a in
-        qed W ((‵ (flft (κs .0) (qs .0)) ⊛ (‵ (flft (κs .1 .0) (qs .1 .0)) ⊛ ‵ ftrue)) ∷ ‵ (owns (RowT (κs .0) ∷ u64 ∷ u64 ∷ u64 ∷ ToT (κs .1 .0) ∷ []) (x .3) (x .4)) ∷ []) ∵ enter ! (𝓣 .C) (𝓣 .Λ) (function three given #ask #give) _ _ $
+        qed W ((‵ (flft (κs .0) (qs .0)) ⊛ (‵ (flft (κs .1 .0) (qs .1 .0)) ⊛ ‵ ftrue)) ∷ ‵ (owns (RowT document-01 (κs .0) ∷ u64 ∷ u64 ∷ u64 ∷ ToT (κs .1 .0) ∷ []) (x .3) (x .4)) ∷ []) ∵ enter ! (𝓣 .C) (𝓣 .Λ) (function three given #ask #give) _ _ $
         alloc1 ! (λ l₀. alloc1 ! (λ l₁. alloc1 ! (λ l₂. alloc1 ! (λ l₃. alloc1 ! (λ l₄. alloc1 ! (λ l₅. alloc1 ! (λ l₆. alloc1 ! (λ l₇. alloc0 ! $ params1 ! $
         pass1 ! (init ! 12 refl (tt, (tt, (record { fits = are .0 .0 .1 .0 }, tt)))) $ pass1 ! (init ! 10 refl (tt, record { fits = are .1 .0 .1 })) $ pass1 ! (init ! 8 refl (tt, record { fits = are .1 .1 .0 .1 })) $ pass1 ! (init ! 6 refl (tt, record { fits = are .1 .1 .1 .0 .1 })) $ pass1 ! (init ! 4 refl (tt, tt)) $ pass0 ! $
         -- [_7; …; _6; …; the other locals; the tokens; what the parameters own]
@@ -265,8 +265,8 @@ module _ (w : Walked) {M : Type 1} (𝓤 : URA M) (H : Heap 𝓤) (𝓜 : Model 
       let A : Atoms 𝓤 = 𝓖 .A in
       let W : Given 𝓤 H A = givenOf 𝓤 H 𝓜 𝓖 in
       proves 𝓤 H 𝓜 𝓖 𝓡 γ (Exported f (w .given)) (Exports f (w .given)) #exported (function f (w .given) (w .#ask) (w .#give)) (stayed f (w .given)) (λ κs. (slice-vals, spells-to κs (f .n))) closed
-      (goes-none-slice 𝓤 H A W 2 (0 ∷ []) tt (plain (λ _. StateT)) yes, goes-to 𝓤 H A W (f .n))
-      (λ κs. (shr-slice-tells (named 0) (κs .0) StateT, tells-to κs (f .n)))
+      (goes-none-slice 𝓤 H A W 2 (0 ∷ []) tt (plain (λ _. StateT document-01)) yes, goes-to 𝓤 H A W (f .n))
+      (λ κs. (shr-slice-tells (named 0) (κs .0) (StateT document-01), tells-to κs (f .n)))
       (λ κs qs bounds. w .walk M 𝓤 H A W (within 𝓤 H 𝓜 𝓡 γ)
       (known 𝓤 H 𝓜 𝓖 𝓡 γ (Question f) (Answered f) (w .#ask) ask-routine calls-ask ask-met)
       (known 𝓤 H 𝓜 𝓖 𝓡 γ (Give (f .E) (w .given)) (Gave (f .E) (w .given)) (w .#give) give-routine calls-give give-met) κs qs)

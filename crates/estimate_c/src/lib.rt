@@ -50,6 +50,8 @@ ghost use Rattle.nightly.specs.Call.{afterBuild};
 ghost use Rattle.text.specs.Rooms.{afterNumbers, afterText, afterCyclesOfNumbers, afterCyclesOfText};
 ghost use Rattle.estimate_c.specs.Given.{startGiven, cacheGiven, graphGiven, listingGiven, amountGiven, countGiven, timeGiven, lengthGiven, spreadGiven, readGiven, countedGiven, bytesOf, numbersGiven, textGiven, yesGiven, nightlyGiven};
 
+mod best_case;
+
 // How the cache is found: `warm` says that it was used.
 fn start_named(warm: bool) -> Start
     ensures { λ r. ⌜ r ≡ startGiven warm ⌝ }

@@ -4,3 +4,5 @@ pub mod Parts
 pub mod Places
 -- the graph call and the longest path of what they mean
 pub mod Call
+-- The best case of a list of numbers
+pub mod Best

@@ -1,6 +1,8 @@
 // What a list of numbers in the curve's order means: where its parts end, and the graph call and the longest path of what it means.
+use best::analyse_best;
 use estimate::analyse;
 use longest::longest_path;
+use rules::BestOutcome;
 use rules::Cache;
 use rules::Length;
 use rules::Outcome;
@@ -10,6 +12,7 @@ ghost use mathlib.Core.Path.{_≡_};
 ghost use Prim.Native.Nat.{_≤_, _<_};
 ghost use lib.ListN.{length};
 ghost use Rattle.parts.specs.Places.{endOf, Ends};
+ghost use Rattle.parts.specs.Best.{bestNumbersLeft};
 ghost use Rattle.parts.specs.Call.{numbersLeft, numbersLongest};
 
 // What is chosen of a cache beside its ways: its sets, its revision, and how it is found.
@@ -115,4 +118,51 @@ pub fn longest_of_numbers(choice: Choice, numbers: &[u32]) -> Length
         return Length::Refused(Refusal::Text);
     }
     longest_in(choice, numbers, first, second, third)
+}
+
+// The best case's graph call for numbers that are complete, as `call` has them.
+fn call_best(
+    sets: u32,
+    revision: u32,
+    numbers: &[u32],
+    first: usize,
+    second: usize,
+    third: usize,
+    result: &mut [u64],
+    work: &mut [u64],
+) -> BestOutcome
+    requires { ⌜ Ends (now numbers) first second third × (3 ≤ first) × (first < second) × (second < third) × (third < length (now numbers)) ⌝ }
+    ensures { λ r. ⌜ record { answer = r; result = now (result .exit); work = now (work .exit) } ≡ bestNumbersLeft sets revision (now (numbers .entry)) (now (result .entry)) (now (work .entry)) ⌝ }
+{
+    analyse_best(
+        sets,
+        numbers[0],
+        revision,
+        numbers[1],
+        &numbers[3..first],
+        &numbers[first + 1..second],
+        &numbers[second + 1..third],
+        &numbers[third + 1..],
+        result,
+        work,
+    )
+}
+
+// The best case's graph call for a list of numbers: 9 where one is missing or left over, which changes nothing, and otherwise as `analyse_best`.
+pub fn analyse_best_numbers(
+    sets: u32,
+    revision: u32,
+    numbers: &[u32],
+    result: &mut [u64],
+    work: &mut [u64],
+) -> BestOutcome
+    ensures { λ r. ⌜ record { answer = r; result = now (result .exit); work = now (work .exit) } ≡ bestNumbersLeft sets revision (now (numbers .entry)) (now (result .entry)) (now (work .entry)) ⌝ }
+{
+    let first = end_of(numbers, 2, 1);
+    let second = end_of(numbers, first, 1);
+    let third = end_of(numbers, second, 1);
+    if end_of(numbers, third, 2) != numbers.len() {
+        return BestOutcome::Refused(Refusal::Text);
+    }
+    call_best(sets, revision, numbers, first, second, third, result, work)
 }

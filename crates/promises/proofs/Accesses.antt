@@ -52,7 +52,6 @@ module _ (N Z : ℕ) (ts : List ℕ) (M : ℕ) (x : Target) (aim : Aimed Z ts x)
 
   pub access-high : (B : ℕ) → ((C m : ℕ) (F : Filled) → Room N Z ts C F → f C m F ≤ B)
       → N * worth f (access N x T) ≤ worth (ahead N x f) T + N * (accessAside N x T * B)
-  unfolding accessAside
   access-high B most = omega (arith, equation, mul-le-mul-left N (all T shaped))
     where
       all : (T : List State) → Every (Shaped N Z ts M) T → sumOver (λ s. leftOver N x s * alone N x f s) T ≤ sumOver (leftOver N x) T * B
@@ -67,7 +66,6 @@ module _ (N Z : ℕ) (ts : List ℕ) (M : ℕ) (x : Target) (aim : Aimed Z ts x)
           )
 
   pub access-even : accessAside N x T ≡ 0 → N * worth f (access N x T) ≡ worth (ahead N x f) T
-  unfolding accessAside
   access-even e = omega (arith, equation, none (aheadOf N x f) T e, ap (N *_) (none (alone N x f) T e))
     where
       none : (g : State → ℕ) (T : List State) → sumOver (leftOver N x) T ≡ 0 → sumOver (λ s. leftOver N x s * g s) T ≡ 0

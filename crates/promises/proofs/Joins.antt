@@ -7,6 +7,7 @@ use native.Mathlib.Nat.{le-max-left, le-max-right, mul-le-mul-left, add-le-add, 
 use Rattle.basics.specs.Sums.{sumOver}
 use Rattle.rules.specs.declared.State.{State}
 use Rattle.rules.specs.Units.{whole}
+use Rattle.rules.specs.AnyTable.{join as joinOf}
 use Rattle.rules.specs.Table.{total, stateAt}
 use Rattle.rules.specs.Join.{Match, matched, paired, fromFront, join}
 use Rattle.rules.specs.Shape.{Every, Shaped}
@@ -41,5 +42,5 @@ module _ (N Z : ℕ) (ts : List ℕ) (M : ℕ) (f : Weight) (rises : Rises N Z t
   )
 
   pub join-above : total S ≡ total T → (worth f S ≤ worth f (join S T)) × (worth f T ≤ worth f (join S T))
-  unfolding join
+  unfolding joinOf
   join-above e = let (l, r) = front-uses S T e in pairing-above (fromFront S T) l r

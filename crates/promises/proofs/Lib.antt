@@ -11,11 +11,17 @@ pub mod Joins
 -- Runs, from their first access to their last, and graphs along a path
 pub mod Runs
 pub mod Paths
+pub mod AnyPath
 pub mod Graphs
 -- The longest path
 pub mod Longest
--- The promises
+-- Straight runs, what is counted, cycles
 pub mod Weights
 pub mod Straight
 pub mod Cycles
+-- The best case: its value, its tables along a path, and the machine
+pub mod BestValue
+pub mod BestTables
+pub mod BestMachine
+-- The promises
 pub mod Promises

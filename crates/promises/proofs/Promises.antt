@@ -9,28 +9,33 @@ use Prim.Native.Nat.{ℕ, _+_, _*_, _^_, _≤_, _<_}
 use native.Mathlib.Nat.{le-refl, mul-le-mul-right}
 use native.Mathlib.Omega.{arith}
 use lib.ListN.{length}
-use Rattle.machine.specs.Cache.{Cache, start, Built}
+use Rattle.machine.specs.Cache.{Cache, first, start, Built}
 use Rattle.machine.specs.Draws.{countFrom, count}
-use Rattle.rules.specs.Answers.{outcomeSays, amountSays, timeSays}
+use Rattle.rules.specs.Answers.{outcomeSays, bestSays, amountSays, timeSays}
 use Rattle.rules.specs.declared.Start.the-variants.{Cold as cold}
 use Rattle.rules.specs.Input.{Input, nodes}
 use Rattle.rules.specs.Questions.{isTable, above}
 use Rattle.rules.specs.Cycles.{cores, coreAt, aboveCycles, smallestCycles, aboveCyclesAnswer, cycleBudgetAnswer}
 use Rattle.rules.specs.Longest.{longest}
 use Rattle.rules.specs.Graph.{startsEmpty, finished}
-use Rattle.rules.specs.Refusals.{outcome}
+use Rattle.rules.specs.Refusals.{outcome, bestOutcome}
+use Rattle.rules.specs.AnyTable.{total as bestTotal}
+use Rattle.rules.specs.Best.{listing, bestTable}
+use Rattle.rules.specs.BestQuestions.{isBestTable, missesAbove, hitsAbove}
 use Rattle.rules.specs.Table.{total}
 use Rattle.rules.specs.Units.{whole}
-use Rattle.rules.proofs.Refusals.{accepted, says-aside}
+use Rattle.rules.proofs.Refusals.{accepted, best-accepted, says-aside}
 use Rattle.rules.proofs.Questions.{finished-whole, finished-is-table}
+use Rattle.rules.proofs.BestQuestions.{best-whole, best-is-table}
 use Rattle.rules.proofs.Cycles.{miss-above-hit, cycles-accepted, above-cycles-answered, cycle-budget-answered}
 use Rattle.rules.proofs.Longest.{longest-most, finished-within}
 use Rattle.promises.specs.Paths.{isPath, accessesOf, allTracked}
-use Rattle.promises.specs.Ends.{revisionOf, over, overCycles, endsWith, unitsWith}
+use Rattle.promises.specs.Ends.{revisionOf, over, overHits, overCycles, endsWith, unitsWith}
 use Rattle.promises.proofs.Longest.{no-longer, longest-straight}
-use Rattle.promises.proofs.Straight.{safe-used-from, safe-start, machine-even, straight-high, straight-even, below-whole}
+use Rattle.promises.proofs.Straight.{safe-used-from, safe-start, cold-filled, machine-even, straight-high, straight-even, below-whole}
 use Rattle.promises.proofs.Weights.{oneWhere, one-most, overIs, worth-above, count-over, atIs, worth-with, count-with}
 use Rattle.promises.proofs.Cycles.{cycles-safe, cycles-tight}
+use Rattle.promises.proofs.BestMachine.{misses-within, hits-within}
 
 -- Safe, the first half of point 3. For every accepted graph, every path from first node to last and every budget B:
 -- (choice sequences with more misses than B) × 2^48 ≤ (units above B) × N^L.
@@ -58,7 +63,7 @@ tight i ok o one all B =
     rw (says-aside i ok, count-over (revisionOf i) (i .tracked) B (i .ways) (start (i .sets) (i .ways)) (i .accesses))
     (⊎-elim
     (λ e. rw e (omega (arith, mul-le-mul-right (i .ways ^ length (i .accesses)) (below-whole i ok B))))
-    (λ h. omega (arith, rw (worth-above B (finished i .table)) at h, machine-even i c o all (oneWhere (overIs B))))
+    (λ h. omega (arith, rw (worth-above B (finished i .table)) at h, machine-even i c (cold-filled i c o) (i .accesses) all (oneWhere (overIs B))))
     (straight-high i c one (oneWhere (overIs B)) (one-most (overIs B))))
 
 -- Exact, point 2. On a straight run from the cold start with every block tracked and nothing set aside, for each contents C and miss
@@ -72,7 +77,7 @@ exact i ok o one all none C m =
     let c = accepted i ok in
     let table = straight-even i c one (oneWhere (atIs C m)) (sym (says-aside i ok) ∙ none) in
     rw (count-with (revisionOf i) (i .tracked) C m (i .ways) (start (i .sets) (i .ways)) (i .accesses), ← worth-with C m (finished i .table))
-    (omega (arith, table, machine-even i c o all (oneWhere (atIs C m))))
+    (omega (arith, table, machine-even i c (cold-filled i c o) (i .accesses) all (oneWhere (atIs C m))))
 
 -- Whole. Units always total 2^48, and the finished table is a table by section 4, so that the questions accept it.
 pub whole-table : (i : Input) → outcomeSays (outcome i) .number ≡ 0 → (total (finished i .table) ≡ whole) × (isTable (finished i .table) ≡ true)
@@ -129,3 +134,23 @@ asked-cycles i ok L e k known B u =
     let T = finished i .table in
     let asked = cycles-accepted T k L known (omega (arith, longest-most i c, c .few-accesses)) (finished-is-table i ok) (rw e (finished-within i c)) in
     (ap amountSays (sym (above-cycles-answered T k L asked B _ refl)), ap timeSays (sym (cycle-budget-answered T k L asked u _ refl)))
+
+-- ---- the best case, for an input that is accepted by the call for it: the first revision, started cold, every accessed block tracked
+
+-- Sure misses. For every accepted graph, every path from first node to last and every number B:
+-- (units with more than B misses) × N^L ≤ 2^48 × (choice sequences with more than B misses).
+pub sure-misses : (i : Input) → bestSays (bestOutcome i) .number ≡ 0 → (path : List ℕ) → isPath i path ≡ true → (B : ℕ)
+    → missesAbove B (bestTable i) * i .ways ^ length (accessesOf i path) ≤ whole * count (over B) first (i .sets) (i .ways) (accessesOf i path)
+sure-misses i h path p B = omega (arith, misses-within i (best-accepted i h) path p B)
+
+-- Sure hits. The same of hits, which are the accesses of the path that are no misses:
+-- (units with more than B hits) × N^L ≤ 2^48 × (choice sequences with more than B hits).
+pub sure-hits : (i : Input) → bestSays (bestOutcome i) .number ≡ 0 → (path : List ℕ) → isPath i path ≡ true → (B : ℕ)
+    → hitsAbove B (bestTable i) * i .ways ^ length (accessesOf i path)
+    ≤ whole * count (overHits (length (accessesOf i path)) B) first (i .sets) (i .ways) (accessesOf i path)
+sure-hits i h path p B = omega (arith, hits-within i (best-accepted i h) path p B)
+
+-- Whole. Units always total 2^48, and the finished table is a table by section 4, so that the questions accept it.
+pub whole-best : (i : Input) → bestSays (bestOutcome i) .number ≡ 0
+    → (bestTotal listing (bestTable i) ≡ whole) × (isBestTable (bestTable i) ≡ true)
+whole-best i h = (best-whole i h, best-is-table i h)

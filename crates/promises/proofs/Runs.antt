@@ -13,6 +13,7 @@ use Rattle.rules.specs.declared.Last.{Last}
 use Rattle.rules.specs.declared.Last.the-variants.{Block as block}
 use Rattle.rules.specs.Units.{whole, more}
 use Rattle.rules.specs.Contents.{targetOf}
+use Rattle.rules.specs.AnyTable.{advance as advanceOf, run as runOfAny}
 use Rattle.rules.specs.Table.{total, Work}
 use Rattle.rules.specs.Step.{access, accessAside}
 use Rattle.rules.specs.Run.{advance, run}
@@ -20,10 +21,10 @@ use Rattle.rules.specs.Shape.{Every, Aimed, Room, Shaped, Table}
 use Rattle.rules.proofs.Splitting.{more-stops, more-cases}
 use Rattle.rules.proofs.Sets.{aimed}
 use Rattle.rules.proofs.Table.{Weight, worth}
-use Rattle.rules.proofs.Step.{ahead, access-shaped, access-total}
-use Rattle.rules.proofs.Run.{table-fits, table-advance}
-use Rattle.promises.proofs.Value.{value, Rises, value-rises, value-most, targetsOf, all-aimed, length-targets}
-use Rattle.promises.proofs.Accesses.{access-low, access-high, access-even}
+use Rattle.rules.proofs.Step.{ahead, access-total}
+use Rattle.rules.proofs.Run.{access-shaped, table-fits, table-advance}
+use Rattle.promises.proofs.Value.{value, value-most, targetsOf, all-aimed, length-targets}
+use Rattle.promises.proofs.Accesses.{access-high, access-even}
 use Rattle.promises.proofs.Folds.{aside-none, Kept, kept-folded}
 
 -- ---- one access with its folds
@@ -34,7 +35,7 @@ module _ (N Z : ℕ) (ts : List ℕ) (K M : ℕ) (x : Target) (some : 0 < N) (fe
   stepped = record { table = access N x (w .table); aside = more (w .aside) (accessAside N x (w .table)) }
 
   kept : Kept N Z ts (suc M) stepped (advance N K x w)
-  unfolding advance
+  unfolding advanceOf
   kept = kept-folded N Z ts (suc M) K stepped
 
   full : total (w .table) ≤ whole
@@ -45,10 +46,6 @@ module _ (N Z : ℕ) (ts : List ℕ) (K M : ℕ) (x : Target) (some : 0 < N) (fe
     access-shaped N Z ts M x some few aim (w .table) (t .shaped),
     le-trans (le-of-eq (access-total N x some (w .table) (table-fits N Z ts K M (w .table) t few x aim) full)) full,
   )
-
-  pub advance-low : (f : Weight) → Rises N Z ts f → worth (ahead N x f) (w .table) ≤ N * worth f (advance N K x w .table)
-  advance-low f rises =
-      le-trans (access-low N Z ts M x aim some few (w .table) (t .shaped) full f rises) (mul-le-mul-left N (kept .low f rises after))
 
   pub advance-stopped : w .aside ≡ whole → advance N K x w .aside ≡ whole
   advance-stopped e = kept .stopped (more-stops (w .aside) (accessAside N x (w .table)) (omega arith))
@@ -98,21 +95,8 @@ module _ (N Z K : ℕ) (ts : List ℕ) (some : 0 < N) (few : N ≤ 16) (sets : 0
   next : (M : ℕ) (l : Last) (b : ℕ) (w : Work) → Table N Z ts K M (w .table) → Table N Z ts K (suc M) (advance N K (targetOf Z ts l b) w .table)
   next M l b w t = table-advance N Z ts K some few room M (targetOf Z ts l b) w (aim l b) t
 
-  pub run-low : (W : Weight) → Rises N Z ts W → (M : ℕ) (l : Last) (bs : List ℕ) (w : Work) → Table N Z ts K M (w .table)
-      → worth (value W N (to l bs)) (w .table) ≤ N ^ length bs * worth W (ran l bs w .table)
-  unfolding run value
-  run-low W rises M l [] w t = rw (pow-zero N) (omega arith)
-  run-low W rises M l (b ∷ bs) w t =
-      rw (pow-succ' N (length bs))
-      (omega (
-        arith,
-        advance-low N Z ts K M (targetOf Z ts l b) some few (aim l b) w t (value W N (to (block b) bs))
-            (value-rises N Z ts few W rises (to (block b) bs) (all-aimed Z ts sets few-sets (block b) bs)),
-        mul-le-mul-left N (run-low W rises (suc M) (block b) bs (advance N K (targetOf Z ts l b) w) (next M l b w t)),
-      ))
-
   run-stopped : (M : ℕ) (l : Last) (bs : List ℕ) (w : Work) → Table N Z ts K M (w .table) → w .aside ≡ whole → ran l bs w .aside ≡ whole
-  unfolding run
+  unfolding runOfAny
   run-stopped M l [] w t e = e
   run-stopped M l (b ∷ bs) w t e =
       run-stopped (suc M) (block b) bs (advance N K (targetOf Z ts l b) w) (next M l b w t)
@@ -122,7 +106,7 @@ module _ (N Z K : ℕ) (ts : List ℕ) (some : 0 < N) (few : N ≤ 16) (sets : 0
       → (ran l bs w .aside ≡ whole)
       ⊎ (N ^ length bs * worth W (ran l bs w .table) + w .aside * N ^ length bs
       ≤ worth (value W N (to l bs)) (w .table) + ran l bs w .aside * N ^ length bs)
-  unfolding run value
+  unfolding runOfAny value
   run-high W most M l [] w t = inr (rw (pow-zero N) (omega arith))
   run-high W most M l (b ∷ bs) w t =
       go (advance-high N Z ts K M (targetOf Z ts l b) some few (aim l b) w t (value W N (to (block b) bs)) (N ^ length bs) top)
@@ -151,7 +135,7 @@ module _ (N Z K : ℕ) (ts : List ℕ) (some : 0 < N) (few : N ≤ 16) (sets : 0
 
   pub run-even : (W : Weight) (M : ℕ) (l : Last) (bs : List ℕ) (w : Work) → Table N Z ts K M (w .table) → ran l bs w .aside ≡ 0
       → (w .aside ≡ 0) × (N ^ length bs * worth W (ran l bs w .table) ≡ worth (value W N (to l bs)) (w .table))
-  unfolding run value
+  unfolding runOfAny value
   run-even W M l [] w t e = (e, rw (pow-zero N) (omega arith))
   run-even W M l (b ∷ bs) w t e =
       let v = advance N K (targetOf Z ts l b) w in

@@ -91,7 +91,7 @@ module _ (i : Input) (ok : Checked i) where
       go false = filled-start first (i .sets) N ∙ ap (evenly (i .sets)) (length-replicate N empty)
 
   -- which the rules say too, where it starts cold
-  cold-filled : i .start ≡ cold → filledOf v (start (i .sets) N) ≡ atStart i
+  pub cold-filled : i .start ≡ cold → filledOf v (start (i .sets) N) ≡ atStart i
   unfolding atStart
   cold-filled e = start-filled ∙ rw e (ap (λ (b : Bool). evenly (i .sets) (cond b 0 N)) (sym (and-true (eqb (i .revision) 2))))
 
@@ -111,12 +111,18 @@ module _ (i : Input) (ok : Checked i) where
           starts-cold warm h = absurd (true≢false (sym h))
       go false e = machine-used (start (i .sets) N) built refl e
 
-  pub machine-even : i .start ≡ cold → allTracked (i .tracked) (i .accesses) ≡ true → (W : Weight)
-      → total (seen v (i .tracked) W) v N (start (i .sets) N) (i .accesses) ≡ ahead W (i .accesses)
-  machine-even o all W =
-      machine-equal (i .tracked) (once-at (i .tracked) (ok .distinct)) few (i .sets) N (ok .some-sets) (ok .few-sets) (ok .few-ways) W v (i .accesses) (start (i .sets) N) unknown (built-start (i .sets) N) all
-      ∙ ap₂ (λ (C : ℕ) (F : Filled). value W N (targetsOf (i .sets) (i .tracked) unknown (i .accesses)) C 0 F)
-      (contents-start (i .tracked) (i .sets) N) (cold-filled o)
+  -- and where the revision is the first
+  pub first-filled : i .revision ≡ 1 → filledOf v (start (i .sets) N) ≡ atStart i
+  unfolding atStart
+  first-filled e = start-filled ∙ rw e
+
+  -- where the rules say what is filled, and every access is tracked
+  pub machine-even : filledOf v (start (i .sets) N) ≡ atStart i → (p : List ℕ) → allTracked (i .tracked) p ≡ true → (W : Weight)
+      → total (seen v (i .tracked) W) v N (start (i .sets) N) p ≡ ahead W p
+  machine-even filled p all W =
+      machine-equal (i .tracked) (once-at (i .tracked) (ok .distinct)) few (i .sets) N (ok .some-sets) (ok .few-sets) (ok .few-ways) W v p (start (i .sets) N) unknown (built-start (i .sets) N) all
+      ∙ ap₂ (λ (C : ℕ) (F : Filled). value W N (targetsOf (i .sets) (i .tracked) unknown p) C 0 F)
+      (contents-start (i .tracked) (i .sets) N) filled
 
   -- ---- so along every path
 

@@ -89,7 +89,7 @@ module _ (N C A D B : ℕ) (f g : ℕ → ℕ) (s : Sub A B) (small : size B ≤
       go i false true t a b = omega (arith, b refl refl)
       go i false false t a b = omega arith
 
-  overWays-rises : overWays N D B f ≤ overWays N C A g
+  pub overWays-rises : overWays N D B f ≤ overWays N C A g
   overWays-rises =
       let (r, e, d) = others N (size B) small in
       let (q, e′, d′) = others N (size A) (omega (arith, size-sub A B s)) in
@@ -115,7 +115,7 @@ module _ (N C E y : ℕ) (g : ℕ → ℕ) (small : size E ≤ N) where
       rw (← overWays-each N C E y small)
       (overWays-rises N C E C E g (λ D. y) (λ i e. e) small lost (λ i l h n. absurd (true≢false (sym h ∙ n))) kept)
 
-  overWays-least : ((i : ℕ) → i < places → bit E i ≡ true → y ≤ g (without C i)) → (size E < N → y ≤ g C) → N * y ≤ overWays N C E g
+  pub overWays-least : ((i : ℕ) → i < places → bit E i ≡ true → y ≤ g (without C i)) → (size E < N → y ≤ g C) → N * y ≤ overWays N C E g
   overWays-least lost kept =
       rw (← overWays-each N C E y small)
       (overWays-rises N C E C E (λ D. y) g (λ i e. e) small lost (λ i l h n. absurd (true≢false (sym h ∙ n))) kept)
@@ -147,7 +147,7 @@ module _ (N Z : ℕ) (ts : List ℕ) (few : N ≤ 16) where
         le-trans (size-sub _ _ (λ i e. sub-shared C D (x .mates) s i (risk-full N x F C i e .1)))
         (rw (aim .beside) (le-trans (room (x .set) .0) (room (x .set) .1)))
 
-    ahead-rises : (f : Weight) → Rises N Z ts f → Rises N Z ts (ahead N x f)
+    pub ahead-rises : (f : Weight) → Rises N Z ts f → Rises N Z ts (ahead N x f)
     ahead-rises f rises C D m n F G s l fewer room = go (hits x C) (hits x D) refl refl
       where
         A : ℕ

@@ -15,6 +15,7 @@ use Rattle.machine.specs.Draws.{countFrom}
 use Rattle.machine.proofs.Draws.{total}
 use Rattle.rules.specs.declared.State.{State}
 use Rattle.rules.specs.Table.{unitsOf}
+use Rattle.rules.specs.Counts.{above as aboveOf}
 use Rattle.rules.specs.Questions.{above}
 use Rattle.rules.specs.declared.Filled.{Filled}
 use Rattle.rules.proofs.Table.{Weight, worth}
@@ -51,7 +52,7 @@ over-rises N Z ts B C D m n F G s l fewer small = go (ltb B n) (ltb B m) refl re
     go false b p q = zero-le
 
 pub worth-above : (B : ℕ) (T : List State) → worth (oneWhere (overIs B)) T ≡ above B T
-unfolding above
+unfolding aboveOf
 worth-above B T = worth-one (overIs B) T
 
 pub count-over : (v : Revision) (ts : List ℕ) (B N : ℕ) (c : Cache) (p : List ℕ)

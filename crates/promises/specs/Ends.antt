@@ -1,7 +1,7 @@
 -- What is counted where a path ends: in the machine, choice sequences; in the finished table, units.
 use mathlib.Core.Bool.{Bool, cond, _&&_}
 use mathlib.Core.List.{List}
-use Prim.Native.Nat.{ℕ}
+use Prim.Native.Nat.{ℕ, _-_}
 use lib.Dec.{eqb, ltb}
 use Rattle.basics.specs.Sums.{sumOver}
 use Rattle.machine.specs.Cache.{Cache, inCache, Revision, first, second}
@@ -19,6 +19,10 @@ revisionOf i = cond (eqb (i .revision) 2) second first
 -- the cache had more misses than the budget
 abbrev pub over : ℕ → Cache → Bool
 over B c = ltb B (c .misses)
+
+-- a path of n accesses that ended in this cache had more hits than the number: each access is a miss or a hit
+abbrev pub overHits : ℕ → ℕ → Cache → Bool
+overHits n B c = ltb B (n - c .misses)
 
 -- a path of n accesses that ended in this cache took more cycles than the budget: its misses at miss cycles, its hits, the rest of its
 -- accesses, at hit cycles

@@ -9,6 +9,7 @@ use native.Mathlib.Omega.{arith}
 use lib.Dec.{ltb}
 use lib.ListN.{length, drop}
 use Rattle.rules.specs.declared.State.{State}
+use Rattle.rules.specs.Counts.{above as aboveAny, largest as largestAny}
 use Rattle.rules.specs.Table.{unitsOf, stateAt}
 use Rattle.rules.specs.Questions.{largest, above, smallestBudget}
 use Rattle.rules.proofs.Questions.{above-largest, above-falls, smallest-is}
@@ -24,12 +25,12 @@ module _ (ws : List ℕ) (i : ℕ) where
   module _ (most : ℕ) (rest : max most (largest (drop i (tableOf ws))) ≡ largest (tableOf ws)) where
     pub largest-next : i < length ws / 5 → (s : State) → s ≡ stateAt (tableOf ws) i → (m : ℕ) → m ≡ max most (s .misses)
         → max m (largest (drop (i + 1) (tableOf ws))) ≡ largest (tableOf ws)
-    unfolding largest
+    unfolding largestAny
     largest-next h s e m f =
         rw (f, e, max-assoc most (stateAt (tableOf ws) i .misses) (largest (drop (i + 1) (tableOf ws)))) (state-next (λ T. max most (largest T)) ws i (largest (tableOf ws)) rest h)
 
     pub largest-end : length ws / 5 ≤ i → most ≡ largest (tableOf ws)
-    unfolding largest
+    unfolding largestAny
     largest-end h = sym (max-zero most) ∙ state-end (λ T. max most (largest T)) ws i (largest (tableOf ws)) rest h
 
   -- ---- the units above a budget
@@ -37,11 +38,11 @@ module _ (ws : List ℕ) (i : ℕ) where
   module _ (B sum : ℕ) (rest : sum + above B (drop i (tableOf ws)) ≡ above B (tableOf ws)) where
     pub above-next : i < length ws / 5 → (s : State) → s ≡ stateAt (tableOf ws) i → (u : ℕ) → u ≡ cond (ltb B (s .misses)) (unitsOf s) 0
         → sum + (u + above B (drop (i + 1) (tableOf ws))) ≡ above B (tableOf ws)
-    unfolding above
+    unfolding aboveAny
     above-next h s e u f = rw (f, e) (state-next (λ T. sum + above B T) ws i (above B (tableOf ws)) rest h)
 
     pub above-end : length ws / 5 ≤ i → sum ≡ above B (tableOf ws)
-    unfolding above
+    unfolding aboveAny
     above-end h = omega (arith, state-end (λ T. sum + above B T) ws i (above B (tableOf ws)) rest h)
 
 -- ---- the smallest budget, by halves

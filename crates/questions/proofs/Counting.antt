@@ -10,6 +10,7 @@ use lib.Seq.{take-suc, take-all}
 use Rattle.basics.proofs.Sums.{sum-append}
 use Rattle.rules.specs.declared.State.{State}
 use Rattle.rules.specs.Units.{whole}
+use Rattle.rules.specs.AnyTable.{total as totalAny}
 use Rattle.rules.specs.Table.{unitsOf, noState, stateAt, total}
 use Rattle.rules.specs.Questions.{unitsAt, largest, countsBelow}
 use Rattle.rules.proofs.Questions.{misses-most, units-most, units-more, counts-at, counts-none, counts-more}
@@ -21,7 +22,7 @@ pub cleared : (ns : List ℕ) (n : ℕ) → ns ≡ replicate n 0 → ns ≡ coun
 cleared ns n e = e ∙ rw (e, length-replicate {A = ℕ} n 0) (sym (counts-none n))
 
 total-take : (k : ℕ) (T : List State) → total (take k T) ≤ total T
-unfolding total
+unfolding totalAny
 total-take k T = omega (arith, sum-append unitsOf (take k T) (drop k T), ap total (take-append-drop k T))
 
 module _ (ws : List ℕ) (i : ℕ) (h : i < length ws / 5) (s : State) (e : s ≡ stateAt (tableOf ws) i) (n : ℕ) (ns : List ℕ)

@@ -14,6 +14,7 @@ use Rattle.rules.specs.declared.Filled.{Filled}
 use Rattle.rules.specs.declared.State.{State}
 use Rattle.rules.specs.Units.{whole}
 use Rattle.rules.specs.Ordered.{isBefore}
+use Rattle.rules.specs.AnyTable.{total as totalAny}
 use Rattle.rules.specs.Table.{unitsOf, order, rising, noState, stateAt, total}
 use Rattle.rules.specs.Filling.{bytesOf, numbersOf}
 use Rattle.rules.specs.Questions.{allMost, fitting, allFitting, isTable}
@@ -97,14 +98,14 @@ module _ (ws : List ℕ) (i : ℕ) where
 
   module _ (left : ℕ) (some : left ≤ whole) (rest : whole + total (drop i (tableOf ws)) ≡ left + total (tableOf ws)) where
     pub whole-next : i < length ws / 5 → (s : State) → s ≡ stateAt (tableOf ws) i → whole + (unitsOf s + total (drop (i + 1) (tableOf ws))) ≡ left + total (tableOf ws)
-    unfolding total
+    unfolding totalAny
     whole-next h s e = rw e (state-next (λ T. whole + total T) ws i (left + total (tableOf ws)) rest h)
 
     pub whole-passed : i < length ws / 5 → (s : State) → s ≡ stateAt (tableOf ws) i → left < unitsOf s → false ≡ eqb (total (tableOf ws)) whole
     whole-passed h s e l = sym (ne-eqb (total (tableOf ws)) whole (λ q. omega (arith, q, whole-next h s e)))
 
     pub whole-end : length ws / 5 ≤ i → eqb left 0 ≡ eqb (total (tableOf ws)) whole
-    unfolding total
+    unfolding totalAny
     whole-end h =
         let end : whole + 0 ≡ left + total (tableOf ws) = state-end (λ T. whole + total T) ws i (left + total (tableOf ws)) rest h in
         same-test (eqb left 0) (eqb (total (tableOf ws)) whole)

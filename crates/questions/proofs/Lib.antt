@@ -5,7 +5,5 @@ pub mod Amounts
 pub mod Counting
 -- What is asked in cycles
 pub mod InCycles
--- The first states of a table in words
-pub mod Span
 -- A row added from its top end
 pub mod Downwards

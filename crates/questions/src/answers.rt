@@ -11,7 +11,6 @@ use rules::Units;
 ghost use mathlib.Core.Path.{_≡_};
 ghost use Rattle.rules.specs.Questions.{aboveAnswer, budgetAnswer, spreadAnswer};
 ghost use Rattle.words.specs.Tables.{tableOf};
-ghost use Rattle.questions.specs.Span.{spanOf};
 
 pub(crate) fn above_of(words: &[u64], budget: u64) -> Amount
     ensures { λ r. ⌜ r ≡ aboveAnswer (tableOf (now (words .entry))) budget ⌝ }
@@ -43,14 +42,4 @@ pub(crate) fn spread_of(words: &[u64], room: &mut [u64]) -> Count
     }
     fill(words, room);
     Count::Misses(last)
-}
-
-// Where the first `states` states end, of `n` words.
-pub(crate) fn span(n: usize, states: usize) -> usize
-    ensures { λ r. ⌜ r ≡ spanOf n states ⌝ }
-{
-    if n / 5 <= states {
-        return n;
-    }
-    states * 5
 }

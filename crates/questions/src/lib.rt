@@ -2,13 +2,13 @@
 // words, or of all that there are: what the graph call left in its result room.
 use crate::answers::above_of;
 use crate::answers::budget_of;
-use crate::answers::span;
 use crate::answers::spread_of;
 use crate::cycles::above_cycles_of;
 use crate::cycles::cycle_budget_of;
 use rules::Amount;
 use rules::Count;
 use rules::Time;
+use words::span;
 ghost use mathlib.Core.Path.{_≡_};
 ghost use lib.ListN.{take};
 ghost use Rattle.rules.specs.Questions.{aboveAnswer, budgetAnswer, spreadAnswer};

@@ -1,2 +1,4 @@
 -- What the checks compute
 pub mod Reasons
+-- The best case's verdict
+pub mod Further

@@ -1,4 +1,4 @@
-// When the work says no: document 01, section 5; document 02, request 1/13.
+// When the work says no: document 01, section 5; document 02, requests 1/13, 6/13 and 10/13.
 use rules::Cache;
 use rules::Refusal;
 use rules::Verdict;
@@ -10,11 +10,13 @@ ghost use Prim.Native.Nat.{_≤_};
 ghost use lib.Dec.{eqb};
 ghost use lib.ListN.{length};
 ghost use Rattle.basics.specs.Sums.{sumOver};
-ghost use Rattle.rules.specs.Contents.{among, once};
+ghost use Rattle.rules.specs.declared.Verdict.the-variants.{Accepted, Refused};
+ghost use Rattle.rules.specs.Contents.{among, allTracked, once};
 ghost use Rattle.rules.specs.Ordered.{rises};
 ghost use Rattle.rules.specs.Input.{edgesOf, inputIn};
-ghost use Rattle.rules.specs.Refusals.{outside, forward, edgeOrder, hasEdgeIn, hasEdgeOut, edgesKept, setCounts, verdict};
+ghost use Rattle.rules.specs.Refusals.{outside, forward, edgeOrder, hasEdgeIn, hasEdgeOut, edgesKept, setCounts, verdict, bestVerdict};
 ghost use Rattle.refusals.specs.Edges.{sideOf};
+ghost use Rattle.refusals.specs.Further.{isEarly, isLate, furtherOf};
 
 // Whether `n` is not one of `low` .. `high`.
 fn outside(low: u64, high: u64, n: u64) -> bool
@@ -241,4 +243,102 @@ pub fn judge(
         return Verdict::Refused(Refusal::Room);
     }
     Verdict::Accepted
+}
+
+// Whether every access is to a tracked block.
+fn all_tracked(tracked: &[u32], accesses: &[u32]) -> bool
+    ensures { λ r. ⌜ r ≡ allTracked (now (tracked .entry)) (now (accesses .entry)) ⌝ }
+{
+    let mut i: usize = 0;
+    while i < accesses.len() {
+        if among(tracked, accesses[i]) {
+            i += 1;
+        } else {
+            return false;
+        }
+    }
+    true
+}
+
+// Whether a refusal is given before 18, the second revision.
+fn is_early(r: Refusal) -> bool
+    ensures { λ b. ⌜ b ≡ isEarly r ⌝ }
+{
+    let n = r.number();
+    if n == 1 {
+        return true;
+    }
+    if n == 10 {
+        return true;
+    }
+    n == 11
+}
+
+// Whether a refusal is given after 17, an accessed block that is not tracked.
+fn is_late(r: Refusal) -> bool
+    ensures { λ b. ⌜ b ≡ isLate r ⌝ }
+{
+    r.number() == 6
+}
+
+// What the best case gives where the graph call is refused; `tracked` says that every access is to a tracked block.
+fn refused_further(r: Refusal, second: bool, tracked: bool) -> Verdict
+    ensures { λ v. ⌜ v ≡ furtherOf (Refused r) second tracked ⌝ }
+{
+    if is_early(r) {
+        return Verdict::Refused(r);
+    }
+    if second {
+        return Verdict::Refused(Refusal::SecondRevision);
+    }
+    if tracked {
+        return Verdict::Refused(r);
+    }
+    if is_late(r) {
+        return Verdict::Refused(Refusal::UntrackedAccess);
+    }
+    Verdict::Refused(r)
+}
+
+// And where it is accepted.
+fn accepted_further(second: bool, tracked: bool) -> Verdict
+    ensures { λ v. ⌜ v ≡ furtherOf Accepted second tracked ⌝ }
+{
+    if second {
+        return Verdict::Refused(Refusal::SecondRevision);
+    }
+    if tracked {
+        return Verdict::Accepted;
+    }
+    Verdict::Refused(Refusal::UntrackedAccess)
+}
+
+// The first reason that applies to the best case's call, in their order.
+pub fn judge_best(
+    cache: Cache,
+    limit: u32,
+    tracked: &[u32],
+    runs: &[u32],
+    accesses: &[u32],
+    edges: &[u32],
+    result_room: usize,
+    working_room: usize,
+) -> Verdict
+    ensures { λ r. ⌜ r ≡ bestVerdict (inputIn cache limit (now (tracked .entry)) (now (runs .entry)) (now (accesses .entry)) (now (edges .entry)) «result_room» «working_room») ⌝ }
+{
+    let second = cache.revision == 2;
+    let tracked_all = all_tracked(tracked, accesses);
+    match judge(
+        cache,
+        limit,
+        tracked,
+        runs,
+        accesses,
+        edges,
+        result_room,
+        working_room,
+    ) {
+        Verdict::Refused(r) => refused_further(r, second, tracked_all),
+        Verdict::Accepted => accepted_further(second, tracked_all),
+    }
 }

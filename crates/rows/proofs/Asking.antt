@@ -32,7 +32,7 @@ use denote.Laws.{Are, Ises, Spells, Tellss, Is, Makes, valss, owns-make}
 use denote.Builtin.{SliceRefOf, u64}
 use denote.Plain.{uint-vals, uint-tells, uint-makes}
 use denote.Enum.Enum.{Few, layout}
-use denote.Enum.Declared.{Declared, shape, row}
+use denote.Enum.Declared.{Declared, shape, row as enum-row}
 use denote.Enum.Laws as enum-laws
 use denote.Exit.{yes}
 use denote.Ref.{now}
@@ -45,11 +45,11 @@ use denote.Triple.Entry.{Args, onEntry}
 use denote.Triple.Walked.{Stays, stay-none-slice, stay-none, walkOf, AllGo, goes-none-slice, goes-none}
 use Rattle.rules.specs.declared.State.{State}
 use Rattle.rows.specs.declared.row.Held.{Held}
-use Rattle.rows.specs.Rows.{statesOf, copied}
-use Rattle.rows.proofs.row.copy as copying
+use Rattle.rows.specs.Rows.{states, statesOf, copied}
 use Rattle.rows.proofs.row.copy.Symbol.{name as #copy, routine as copy-routine}
 use Rattle.rows.proofs.row.copy.Met as copy-thm
-use Rattle.rows.proofs.LentRow.{StateT, HeldT, held-mir, slice, held-typed, held-makes, Copied, copies}
+use Rattle.rows.proofs.LentRow as row
+use Rattle.rows.proofs.LentRow.{HeldT, held-mir, held-typed, held-makes, document-01}
 use Rattle.rows.proofs.Walk.{Claim, claims, Keeps, Alive, asks, leaves, within, known, proves}
 
 -- ---- n numbers, as parameters
@@ -102,31 +102,31 @@ Params T κs = typesAt (T .signature .params) κs
 module _ (f : Form) where
   abbrev Ask : Ended
   Ask = record {
-    signature = record { lifetimes = 0; outlives = []; params = plain (λ _. HeldT) ∷ slots 0 (f .n); result = plain (λ _. row (f .E)) };
+    signature = record { lifetimes = 0; outlives = []; params = plain (λ _. HeldT) ∷ slots 0 (f .n); result = plain (λ _. enum-row (f .E)) };
     kept = (yes, all yes (slots 0 (f .n)));
   }
 
   abbrev pub Question : Ended
   Question = record {
-    signature = record { lifetimes = 1; outlives = []; params = SliceRefOf (0 ∷ []) tt (plain (λ _. StateT)) (λ _. tt) ∷ slots 1 (f .n); result = plain (λ _. row (f .E)) };
+    signature = record { lifetimes = 1; outlives = []; params = SliceRefOf (0 ∷ []) tt (plain (λ _. (row.StateT document-01))) (λ _. tt) ∷ slots 1 (f .n); result = plain (λ _. enum-row (f .E)) };
     kept = (yes, all yes (slots 1 (f .n)));
   }
 
   abbrev Asked : Claim Ask
-  Asked κs a r e = r ≡ f .answer (statesOf (a .0)) (a .1)
+  Asked κs a r e = r ≡ f .answer (statesOf states (a .0)) (a .1)
 
   abbrev pub Answered : Claim Question
   Answered κs a r e = r ≡ f .answer (now (a .0)) (numbers κs (f .n) (a .1))
 
   abbrev stayed : Stays (Question .signature .params) (Question .kept)
-  stayed = (stay-none-slice (0 ∷ []) tt (plain (λ _. StateT)) yes, stays 1 (f .n))
+  stayed = (stay-none-slice (0 ∷ []) tt (plain (λ _. (row.StateT document-01))) yes, stays 1 (f .n))
 
   abbrev function : Name → Fn
   function #ask = record {
     lifetimes = 1;
     outlives = [];
     params = f .n + 1;
-    locals = local (layout (shape (f .E))) valueLocal ∷ local slice valueLocal ∷ (replicate (f .n) (local (tyInt w64) valueLocal) ++ (local held-mir valueLocal ∷ []));
+    locals = local (layout (shape (f .E))) valueLocal ∷ local (row.slice document-01) valueLocal ∷ (replicate (f .n) (local (tyInt w64) valueLocal) ++ (local held-mir valueLocal ∷ []));
     body =
         seq (call #copy (copy (place 1 []) ∷ []) (place (f .n + 2) []))
         (seq (call #ask (copy (place (f .n + 2) []) ∷ operands (f .n) 2) (place 0 [])) return);
@@ -143,7 +143,7 @@ module _ (f : Form) where
 
   abbrev Walk : Name → Type 2
   Walk #ask = (M : Type 1) (𝓤 : URA M) (H : Heap 𝓤) (A : Atoms 𝓤) → Given 𝓤 H A
-      → (𝓣 : Tables 𝓤 H) → Keeps 𝓤 H A copying.ended Copied (𝓣 .C #copy) → Keeps 𝓤 H A Ask Asked (𝓣 .C #ask)
+      → (𝓣 : Tables 𝓤 H) → Keeps 𝓤 H A (row.Copy document-01) (row.Copied document-01) (𝓣 .C #copy) → Keeps 𝓤 H A Ask Asked (𝓣 .C #ask)
       → (κs : Lfts 1) (qs : Shares 1) (a : Args (Question .signature) κs)
       → let x : Bound 𝓤 H A (Question .signature) = to-question 𝓤 H A κs qs a in
       Are (Params Question κs) (Ises (Params Question κs)) a (x .4)
@@ -158,7 +158,7 @@ pub record Walked : Type 3 where
 -- ---- the walks
 
 module _ (E : Declared) (L : enum-laws.Laws E) (few : Few (shape E)) where
-  module _ (answer : List State → ℕ → E .D) (same : (ys : List State) (p : ℕ) → answer (statesOf (copied ys)) p ≡ answer ys p) (#ask : Name) where
+  module _ (answer : List State → ℕ → E .D) (same : (ys : List State) (p : ℕ) → answer (statesOf states (copied states ys)) p ≡ answer ys p) (#ask : Name) where
     abbrev one : Form
     one = record { E = E; n = 1; answer = λ ys ps. answer ys (ps .0) }
 
@@ -171,7 +171,7 @@ module _ (E : Declared) (L : enum-laws.Laws E) (few : Few (shape E)) where
         pass1 ! (init ! 4 refl (tt, (tt, (record { fits = are .0 .0 .1 .0 }, tt)))) $ pass1 ! (init ! 2 refl (tt, record { fits = are .1 .0 .1 })) $ pass0 ! $
         -- [_3; …; _2; …; _1; …; _0; …; the token; what the parameters own]
         move ! (8 ∷ []) $ split ! $ move ! (0 ∷ 10 ∷ []) $
-        copies ! 𝓣 known-copy (typesAt (slots 1 1) κs) (a .0) (a .1) (x .4 .1) (and-then ! (load ! (from ! (stop !)) (look ! 7 refl)) (no-more !)) (λ u h said is.
+        row.copies document-01 ! 𝓣 known-copy (typesAt (slots 1 1) κs) (a .0) (a .1) (x .4 .1) (and-then ! (load ! (from ! (stop !)) (look ! 7 refl)) (no-more !)) (λ u h said is.
         -- [the token; what the parameters own; …; _3; …; _2; …; _1; …; _0; …]
         land ! (from ! (stop !)) (init ! 3 refl (held-typed 𝓤 H A W h u is)) $
         use0 W (‵ (owns (Params (Ask one) tt) (y h u .3) (y h u .4)))
@@ -184,12 +184,12 @@ module _ (E : Declared) (L : enum-laws.Laws E) (few : Few (shape E)) where
         move ! (12 ∷ 13 ∷ []) $ free1 ! $ move ! (10 ∷ 11 ∷ []) $ free1 ! $ move ! (8 ∷ 9 ∷ []) $ free1 ! $ move ! (6 ∷ 7 ∷ []) $ free1 ! $ free0 ! $
         keep ! (3 ∷ 5 ∷ 0 ∷ 4 ∷ []) $ join ! $ use1 W (Alive 𝓤 H A (Question one) x) (id⊢ 𝓤 _) $ move ! (1 ∷ 0 ∷ []) $
         leaves ! (Question one) (stayed one) (Answered one) x v r (tt, (tt, tt)) (tt, (tt, tt))
-        (answered ∙ ap (λ (h : Held). one .answer (statesOf h) (a .1)) said ∙ same (a .0 .now) (a .1 .0))))))))
+        (answered ∙ ap (λ (h : Held). one .answer (statesOf states h) (a .1)) said ∙ same (a .0 .now) (a .1 .0))))))))
 
     abbrev pub of-one : Walked
     of-one = record { form = one; #ask = #ask; walk = walk-one }
 
-  module _ (answer : List State → ℕ → ℕ → ℕ → E .D) (same : (ys : List State) (k l p : ℕ) → answer (statesOf (copied ys)) k l p ≡ answer ys k l p) (#ask : Name) where
+  module _ (answer : List State → ℕ → ℕ → ℕ → E .D) (same : (ys : List State) (k l p : ℕ) → answer (statesOf states (copied states ys)) k l p ≡ answer ys k l p) (#ask : Name) where
     abbrev three : Form
     three = record { E = E; n = 3; answer = λ ys ps. answer ys (ps .0) (ps .1 .0) (ps .1 .1 .0) }
 
@@ -204,7 +204,7 @@ module _ (E : Declared) (L : enum-laws.Laws E) (few : Few (shape E)) where
         pass1 ! (init ! 4 refl (tt, record { fits = are .1 .1 .0 .1 })) $ pass1 ! (init ! 2 refl (tt, record { fits = are .1 .1 .1 .0 .1 })) $ pass0 ! $
         -- [_5; …; _4; …; _3; …; _2; …; _1; …; _0; …; the token; what the parameters own]
         move ! (12 ∷ []) $ split ! $ move ! (0 ∷ 14 ∷ []) $
-        copies ! 𝓣 known-copy (typesAt (slots 1 3) κs) (a .0) (a .1) (x .4 .1) (and-then ! (load ! (from ! (stop !)) (look ! 11 refl)) (no-more !)) (λ u h said is.
+        row.copies document-01 ! 𝓣 known-copy (typesAt (slots 1 3) κs) (a .0) (a .1) (x .4 .1) (and-then ! (load ! (from ! (stop !)) (look ! 11 refl)) (no-more !)) (λ u h said is.
         -- [the token; what the parameters own; …; _5; …; _4; …; _3; …; _2; …; _1; …; _0; …]
         land ! (from ! (stop !)) (init ! 3 refl (held-typed 𝓤 H A W h u is)) $
         use0 W (‵ (owns (Params (Ask three) tt) (y h u .3) (y h u .4)))
@@ -219,7 +219,7 @@ module _ (E : Declared) (L : enum-laws.Laws E) (few : Few (shape E)) where
         move ! (10 ∷ 11 ∷ []) $ free1 ! $ move ! (8 ∷ 9 ∷ []) $ free1 ! $ move ! (6 ∷ 7 ∷ []) $ free1 ! $ free0 ! $
         keep ! (3 ∷ 5 ∷ 0 ∷ 4 ∷ []) $ join ! $ use1 W (Alive 𝓤 H A (Question three) x) (id⊢ 𝓤 _) $ move ! (1 ∷ 0 ∷ []) $
         leaves ! (Question three) (stayed three) (Answered three) x v r (tt, (tt, (tt, (tt, tt)))) (tt, (tt, (tt, (tt, tt))))
-        (answered ∙ ap (λ (h : Held). three .answer (statesOf h) (a .1)) said ∙ same (a .0 .now) (a .1 .0) (a .1 .1 .0) (a .1 .1 .1 .0))))))))))
+        (answered ∙ ap (λ (h : Held). three .answer (statesOf states h) (a .1)) said ∙ same (a .0 .now) (a .1 .0) (a .1 .1 .0) (a .1 .1 .1 .0))))))))))
 
     abbrev pub of-three : Walked
     of-three = record { form = three; #ask = #ask; walk = walk-three }
@@ -237,8 +237,8 @@ module _ (w : Walked) {M : Type 1} (𝓤 : URA M) (H : Heap 𝓤) (𝓜 : Model 
       let A : Atoms 𝓤 = 𝓖 .A in
       let W : Given 𝓤 H A = givenOf 𝓤 H 𝓜 𝓖 in
       proves 𝓤 H 𝓜 𝓖 𝓡 γ (Question f) (Answered f) #question (function f (w .#ask)) (stayed f) (λ κs. (slice-vals, spells 1 κs (f .n))) closed
-      (goes-none-slice 𝓤 H A W 1 (0 ∷ []) tt (plain (λ _. StateT)) yes, goes 1 𝓤 H A W (f .n))
-      (λ κs. (shr-slice-tells (named 0) (κs .0) StateT, tells 1 κs (f .n)))
+      (goes-none-slice 𝓤 H A W 1 (0 ∷ []) tt (plain (λ _. (row.StateT document-01))) yes, goes 1 𝓤 H A W (f .n))
+      (λ κs. (shr-slice-tells (named 0) (κs .0) (row.StateT document-01), tells 1 κs (f .n)))
       (λ κs qs bounds. w .walk M 𝓤 H A W (within 𝓤 H 𝓜 𝓡 γ)
-      (known 𝓤 H 𝓜 𝓖 𝓡 γ copying.ended Copied #copy copy-routine calls-copy (copy-thm.met 𝓤 H 𝓜 𝓖 𝓡))
+      (known 𝓤 H 𝓜 𝓖 𝓡 γ (row.Copy document-01) (row.Copied document-01) #copy copy-routine calls-copy (copy-thm.met 𝓤 H 𝓜 𝓖 𝓡))
       (known 𝓤 H 𝓜 𝓖 𝓡 γ (Ask f) (Asked f) (w .#ask) ask-routine calls-ask met) κs qs)

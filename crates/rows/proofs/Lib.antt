@@ -4,5 +4,9 @@ pub mod Copies
 pub mod Walk
 -- Steps over a lent row
 pub mod LentRow
+-- A row copied, state by state
+pub mod Copying
 -- Questions of some numbers, put to a lent row
 pub mod Asking
+-- Spreads of a lent row
+pub mod Spreading

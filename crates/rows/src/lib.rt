@@ -1,4 +1,8 @@
-// The questions put to a finished table, asked of a lent row of states: each copies the row, by value, and asks the copy.
+// The questions put to a finished table, asked of a lent row of states: each copies the row, by value, and asks the copy. Of document 01's table, and of the
+// best case's.
+use crate::best_row::copy_best;
+use crate::best_row::hit_spread_held;
+use crate::best_row::miss_spread_held;
 use crate::row::above_cycles_held;
 use crate::row::above_held;
 use crate::row::budget_held;
@@ -6,13 +10,18 @@ use crate::row::copy;
 use crate::row::cycle_budget_held;
 use crate::row::spread_held;
 use rules::Amount;
+use rules::BestState;
 use rules::Count;
+use rules::HitCount;
+use rules::MissCount;
 use rules::State;
 use rules::Time;
 ghost use mathlib.Core.Path.{_≡_};
 ghost use Rattle.rules.specs.Questions.{aboveAnswer, budgetAnswer, spreadAnswer};
+ghost use Rattle.rules.specs.BestQuestions.{missSpreadAnswer, hitSpreadAnswer};
 ghost use Rattle.rules.specs.Cycles.{aboveCyclesAnswer, cycleBudgetAnswer};
 
+mod best_row;
 mod row;
 
 // The units above a budget: misses strictly greater.
@@ -48,4 +57,18 @@ pub fn smallest_cycles(row: &[State], core: usize, longest: u64, units: u64) -> 
     ensures { λ r. ⌜ r ≡ cycleBudgetAnswer (now (row .entry)) core longest units ⌝ }
 {
     cycle_budget_held(copy(row), core, longest, units)
+}
+
+// Of a row of the best case's states: the units at each miss count from 0 to the largest present, which is the answer; `room` has zeros beyond it.
+pub fn miss_spread(row: &[BestState], room: &mut [u64]) -> MissCount
+    ensures { λ r. ⌜ record { answer = r; room = now (room .exit) } ≡ missSpreadAnswer (now (row .entry)) (now (room .entry)) ⌝ }
+{
+    miss_spread_held(copy_best(row), room)
+}
+
+// And at each hit count.
+pub fn hit_spread(row: &[BestState], room: &mut [u64]) -> HitCount
+    ensures { λ r. ⌜ record { answer = r; room = now (room .exit) } ≡ hitSpreadAnswer (now (row .entry)) (now (room .entry)) ⌝ }
+{
+    hit_spread_held(copy_best(row), room)
 }

@@ -11,7 +11,7 @@ use rules::Time;
 ghost use mathlib.Core.Path.{_≡_};
 ghost use Rattle.rules.specs.Questions.{aboveAnswer, budgetAnswer, spreadAnswer};
 ghost use Rattle.rules.specs.Cycles.{aboveCyclesAnswer, cycleBudgetAnswer};
-ghost use Rattle.rows.specs.Rows.{nothingHeld, oneMore, copied, statesOf};
+ghost use Rattle.rows.specs.Rows.{states, nothingHeld, oneMore, copied, statesOf};
 
 // The first states of a row, 65 at most: one more than a table has.
 pub(crate) struct Held {
@@ -29,7 +29,7 @@ pub(crate) fn nothing() -> Held
 
 // One state more; where there is no room for it, the row is no table whatever follows.
 pub(crate) fn hold(held: Held, s: State) -> Held
-    ensures { λ r. ⌜ r ≡ oneMore held s ⌝ }
+    ensures { λ r. ⌜ r ≡ oneMore states held s ⌝ }
 {
     let n = held.states;
     if 64 < n {
@@ -51,7 +51,7 @@ pub(crate) fn hold(held: Held, s: State) -> Held
 
 // The walk: each state of the row in turn.
 pub(crate) fn copy(row: &[State]) -> Held
-    ensures { λ r. ⌜ r ≡ copied (now (row .entry)) ⌝ }
+    ensures { λ r. ⌜ r ≡ copied states (now (row .entry)) ⌝ }
 {
     let mut held = nothing();
     let mut i = 0;
@@ -64,7 +64,7 @@ pub(crate) fn copy(row: &[State]) -> Held
 
 // What is held is asked the units above a budget.
 pub(crate) fn above_held(held: Held, budget: u64) -> Amount
-    ensures { λ r. ⌜ r ≡ aboveAnswer (statesOf held) budget ⌝ }
+    ensures { λ r. ⌜ r ≡ aboveAnswer (statesOf states held) budget ⌝ }
 {
     let words = held.words;
     above_in(&words, held.states, budget)
@@ -72,7 +72,7 @@ pub(crate) fn above_held(held: Held, budget: u64) -> Amount
 
 // The smallest budget.
 pub(crate) fn budget_held(held: Held, units: u64) -> Count
-    ensures { λ r. ⌜ r ≡ budgetAnswer (statesOf held) units ⌝ }
+    ensures { λ r. ⌜ r ≡ budgetAnswer (statesOf states held) units ⌝ }
 {
     let words = held.words;
     smallest_budget_in(&words, held.states, units)
@@ -80,7 +80,7 @@ pub(crate) fn budget_held(held: Held, units: u64) -> Count
 
 // The spread.
 pub(crate) fn spread_held(held: Held, room: &mut [u64]) -> Count
-    ensures { λ r. ⌜ record { answer = r; room = now (room .exit) } ≡ spreadAnswer (statesOf held) (now (room .entry)) ⌝ }
+    ensures { λ r. ⌜ record { answer = r; room = now (room .exit) } ≡ spreadAnswer (statesOf states held) (now (room .entry)) ⌝ }
 {
     let words = held.words;
     spread_in(&words, held.states, room)
@@ -88,7 +88,7 @@ pub(crate) fn spread_held(held: Held, room: &mut [u64]) -> Count
 
 // The units above a cycle budget.
 pub(crate) fn above_cycles_held(held: Held, core: usize, longest: u64, budget: u64) -> Amount
-    ensures { λ r. ⌜ r ≡ aboveCyclesAnswer (statesOf held) core longest budget ⌝ }
+    ensures { λ r. ⌜ r ≡ aboveCyclesAnswer (statesOf states held) core longest budget ⌝ }
 {
     let words = held.words;
     above_cycles_in(&words, held.states, core, longest, budget)
@@ -96,7 +96,7 @@ pub(crate) fn above_cycles_held(held: Held, core: usize, longest: u64, budget: u
 
 // The smallest cycle budget.
 pub(crate) fn cycle_budget_held(held: Held, core: usize, longest: u64, units: u64) -> Time
-    ensures { λ r. ⌜ r ≡ cycleBudgetAnswer (statesOf held) core longest units ⌝ }
+    ensures { λ r. ⌜ r ≡ cycleBudgetAnswer (statesOf states held) core longest units ⌝ }
 {
     let words = held.words;
     smallest_cycles_in(&words, held.states, core, longest, units)

@@ -8,14 +8,19 @@ pub mod Contents
 pub mod Lookup
 pub mod Filling
 pub mod Sets
--- Tables
+-- Accepted inputs, and their nodes
+pub mod Refusals
+pub mod Nodes
+-- Tables of any kind
 pub mod Ordered
+pub mod Listings
+pub mod Pairings
+pub mod AnyTable
+-- Document 01's tables
 pub mod Table
 pub mod Step
 pub mod Fold
 pub mod Join
--- Accepted inputs
-pub mod Refusals
 -- The tables of runs and graphs
 pub mod Run
 pub mod Graph
@@ -28,6 +33,7 @@ pub mod Rooms
 -- The longest path
 pub mod Longest
 -- The questions
+pub mod Counts
 pub mod Questions
 -- Curves in cycles
 pub mod Cycles
@@ -35,3 +41,7 @@ pub mod Cycles
 pub mod Within
 -- The worked numbers of document 01
 pub mod WorkedNumbers
+-- The best case
+pub mod Best
+pub mod BestQuestions
+pub mod BestNumbers

@@ -16,6 +16,7 @@ use Rattle.rules.specs.Contents.{among}
 use Rattle.rules.specs.Input.{Input, nodes, offset, edgesOf, predecessors}
 use Rattle.rules.specs.Table.{State}
 use Rattle.rules.specs.Graph.{finished}
+use Rattle.rules.specs.Counts.{largest as largestOf}
 use Rattle.rules.specs.Questions.{largest}
 use Rattle.rules.specs.Shape.{Every, Shaped}
 use Rattle.rules.specs.Longest.{mostOf, longestTo, longestBefore, upTo, longest}
@@ -126,7 +127,7 @@ module _ (i : Input) (ok : Checked i) where
 -- ---- the misses
 
 shaped-largest : (N Z : ℕ) (ts : List ℕ) (M : ℕ) (T : List State) → Every (Shaped N Z ts M) T → largest T ≤ M
-unfolding largest
+unfolding largestOf
 shaped-largest N Z ts M [] h = zero-le
 shaped-largest N Z ts M (s ∷ T) h = max-le (h .0 .0 .few) (shaped-largest N Z ts M T (h .1))
 

@@ -193,7 +193,7 @@ said-before a b =
     number-cases a b (λ o. o ≡ before → a < b) (λ l e. l) (λ q e. let z : _≡_ {A = ℕ} 0 1 = cc in absurd (omega arith))
     (λ l e. let z : _≡_ {A = ℕ} 0 1 = cc in absurd (omega arith))
 
-said-same : (a b : ℕ) → byNumber a b ≡ same → a ≡ b
+pub said-same : (a b : ℕ) → byNumber a b ≡ same → a ≡ b
 said-same a b =
     number-cases a b (λ o. o ≡ same → a ≡ b) (λ l e. let z : _≡_ {A = ℕ} 0 1 = cc in absurd (omega arith)) (λ q e. q)
     (λ l e. let z : _≡_ {A = ℕ} 0 1 = cc in absurd (omega arith))
@@ -205,7 +205,7 @@ turned before = after
 turned same = same
 turned after = before
 
-then-both : (p q : Order) → thenBy p q ≡ same → (p ≡ same) × (q ≡ same)
+pub then-both : (p q : Order) → thenBy p q ≡ same → (p ≡ same) × (q ≡ same)
 then-both before q e = let z : _≡_ {A = ℕ} 0 1 = cc in absurd (omega arith)
 then-both same q e = (refl, e)
 then-both after q e = let z : _≡_ {A = ℕ} 0 1 = cc in absurd (omega arith)
@@ -259,6 +259,22 @@ module _ {A : Type 0} (o : A → A → Order) (orders : Orders o) where
         on s t u same after x y a b = let z : _≡_ {A = ℕ} 0 1 = cc in absurd (omega arith)
         on s t u after q x y a b = let z : _≡_ {A = ℕ} 0 1 = cc in absurd (omega arith)
 
+-- what the first of two orders says, where it says before, where it says so turned round, and where it says neither
+pub before-first : (o p : Order) → isBefore o ≡ true → true ≡ isBefore (thenBy o p)
+before-first before p h = refl
+before-first same p h = absurd (true≢false (sym h))
+before-first after p h = absurd (true≢false (sym h))
+
+pub after-first : (o p : Order) → isBefore (turned o) ≡ true → false ≡ isBefore (thenBy o p)
+after-first before p h = absurd (true≢false (sym h))
+after-first same p h = absurd (true≢false (sym h))
+after-first after p h = refl
+
+pub neither-first : (o p : Order) → isBefore o ≡ false → isBefore (turned o) ≡ false → isBefore p ≡ isBefore (thenBy o p)
+neither-first before p h k = absurd (true≢false h)
+neither-first same p h k = refl
+neither-first after p h k = absurd (true≢false k)
+
 -- ---- the order of states
 
 pub state-orders : Orders order
@@ -305,27 +321,12 @@ module _ (s t : State) where
 
   pub before-at-once : (r : Bool) → r ≡ isBefore (byContents s t) → r ≡ true → true ≡ isBefore (order s t)
   unfolding order
-  before-at-once r e h = go (byContents s t) (sym e ∙ h)
-    where
-      go : (o : Order) → isBefore o ≡ true → true ≡ isBefore (thenBy o byFilled)
-      go before h = refl
-      go same h = absurd (true≢false (sym h))
-      go after h = absurd (true≢false (sym h))
+  before-at-once r e h = before-first (byContents s t) byFilled (sym e ∙ h)
 
   pub after-at-once : (r : Bool) → r ≡ isBefore (byContents t s) → r ≡ true → false ≡ isBefore (order s t)
   unfolding order
-  after-at-once r e h = go (byContents s t) (ap isBefore (sym back-turned) ∙ sym e ∙ h)
-    where
-      go : (o : Order) → isBefore (turned o) ≡ true → false ≡ isBefore (thenBy o byFilled)
-      go before h = absurd (true≢false (sym h))
-      go same h = absurd (true≢false (sym h))
-      go after h = refl
+  after-at-once r e h = after-first (byContents s t) byFilled (ap isBefore (sym back-turned) ∙ sym e ∙ h)
 
   pub by-filled : (p q r : Bool) → p ≡ isBefore (byContents s t) → p ≡ false → q ≡ isBefore (byContents t s) → q ≡ false → r ≡ isBefore byFilled → r ≡ isBefore (order s t)
   unfolding order
-  by-filled p q r e h f k g = g ∙ go (byContents s t) (sym e ∙ h) (ap isBefore (sym back-turned) ∙ sym f ∙ k)
-    where
-      go : (o : Order) → isBefore o ≡ false → isBefore (turned o) ≡ false → isBefore byFilled ≡ isBefore (thenBy o byFilled)
-      go before h k = absurd (true≢false h)
-      go same h k = refl
-      go after h k = absurd (true≢false k)
+  by-filled p q r e h f k g = g ∙ neither-first (byContents s t) byFilled (sym e ∙ h) (ap isBefore (sym back-turned) ∙ sym f ∙ k)

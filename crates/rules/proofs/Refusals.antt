@@ -8,19 +8,19 @@ use native.Mathlib.Nat.{eq-or-lt-of-le, le-of-suc-le-suc, not-suc-le-zero}
 use native.Mathlib.Omega.{arith}
 use lib.Dec.{eqb, ltb}
 use lib.ListN.{length}
-use borrow.Author.Tests.{ltb-true, ltb-false, eqb-true, not-false}
+use borrow.Author.Tests.{ltb-true, ltb-false, eqb-true, eqb-false, not-false}
 use Rattle.basics.specs.Sums.{sumOver}
 use Rattle.basics.proofs.Bools.{and-left, and-right, or-cases, not-left, not-right}
 use Rattle.rules.specs.declared.Refusal.{Refusal}
-use Rattle.rules.specs.declared.Refusal.the-variants.{Text, Ways, Limit, Tracked, Accesses, Graph, Room, Row, SpreadRoom, Sets, Revision, NoCore, TraceLength, TraceRoom, ListingRoom, Listing, Expansion, Nightly}
+use Rattle.rules.specs.declared.Refusal.the-variants.{Text, Ways, Limit, Tracked, Accesses, Graph, Room, Row, SpreadRoom, Sets, Revision, NoCore, UntrackedAccess, SecondRevision, TraceLength, TraceRoom, ListingRoom, Listing, Expansion, Nightly}
 use Rattle.rules.specs.declared.Verdict.{Verdict}
 use Rattle.rules.specs.declared.Verdict.the-variants.{Accepted, Refused}
-use Rattle.rules.specs.Answers.{numberOf, Reason, first, verdictSays, outcomeSays}
-use Rattle.rules.specs.Contents.{among, once}
+use Rattle.rules.specs.Answers.{numberOf, Reason, first, verdictSays, outcomeSays, bestSays}
+use Rattle.rules.specs.Contents.{among, once, allTracked}
 use Rattle.rules.specs.Ordered.{before, byNumber, rises}
 use Rattle.rules.specs.Input.{Input, nodes, Edge, edgesOf, predecessors}
 use Rattle.rules.specs.Graph.{finished}
-use Rattle.rules.specs.Refusals.{outside, forward, inPairs, edgeOrder, eachBelow, hasEdgeIn, hasEdgeOut, edgesKept, setCounts, reasons, verdict, answered, outcome}
+use Rattle.rules.specs.Refusals.{outside, forward, inPairs, edgeOrder, eachBelow, hasEdgeIn, hasEdgeOut, edgesKept, setCounts, reasons, verdict, answered, outcome, bestReasons, bestVerdict, bestAnswered, bestOutcome}
 use Rattle.rules.specs.Shape.{Every}
 use Rattle.rules.proofs.Lookup.{among-every}
 use Rattle.rules.proofs.Ordered.{InOrder, in-order-rises, rises-in-order, number-same, by-number, then-by}
@@ -40,6 +40,8 @@ numbered SpreadRoom e = omega arith
 numbered Sets e = omega arith
 numbered Revision e = omega arith
 numbered NoCore e = omega arith
+numbered UntrackedAccess e = omega arith
+numbered SecondRevision e = omega arith
 numbered TraceLength e = omega arith
 numbered TraceRoom e = omega arith
 numbered ListingRoom e = omega arith
@@ -89,11 +91,10 @@ counts-some n h = among-every (λ m. 0 < m) setCounts n h (omega arith, (omega a
 pub counts-few : (n : ℕ) → among setCounts n ≡ true → n ≤ 16
 counts-few n h = among-every (λ m. m ≤ 16) setCounts n h (omega arith, (omega arith, (omega arith, (omega arith, (omega arith, tt)))))
 
--- an input is accepted where the call's answer carries no refusal's number
-pub accepted : (i : Input) → outcomeSays (outcome i) .number ≡ 0 → Checked i
-unfolding outcome verdict reasons
-accepted i h =
-    let (w, (n, (v, (k, (t, (a, (g, (r, _)))))))) = none-applies (reasons i) (says (first (reasons i)) h) in
+-- none of the graph call's reasons applies
+facts : (i : Input) → Every (λ r. r .applies ≡ false) (reasons i) → Checked i
+unfolding reasons
+facts i (w, (n, (v, (k, (t, (a, (g, (r, _)))))))) =
     let ways = within 1 16 (i .ways) w in
     let sets = not-false _ n in
     let revision = within 1 2 (i .revision) v in
@@ -142,7 +143,35 @@ accepted i h =
     small-working : Bool
     small-working = ltb (i .workingRoom) 5184
 
+-- an input is accepted where the call's answer carries no refusal's number
+pub accepted : (i : Input) → outcomeSays (outcome i) .number ≡ 0 → Checked i
+unfolding outcome verdict
+accepted i h = facts i (none-applies (reasons i) (says (first (reasons i)) h))
+  where
     says : (v : Verdict) → outcomeSays (answered v i) .number ≡ 0 → verdictSays v ≡ 0
+    says Accepted h = refl
+    says (Refused r) h = h
+
+-- the call for the best case has the same reasons, so what it accepts is known to be so too; and the revision is the first, and every access is
+-- tracked
+pub record BestChecked (i : Input) : Type 0 where
+  pub checked : Checked i
+  pub first-revision : i .revision ≡ 1
+  pub all-tracked : allTracked (i .tracked) (i .accesses) ≡ true
+
+pub best-accepted : (i : Input) → bestSays (bestOutcome i) .number ≡ 0 → BestChecked i
+unfolding bestOutcome bestVerdict bestReasons reasons
+best-accepted i h =
+    let (w, (n, (v, (e, (k, (t, (a, (g, (u, (r, _)))))))))) = none-applies (bestReasons i) (says (first (bestReasons i)) h) in
+    let some : (1 ≤ i .revision) × (i .revision ≤ 2) = within 1 2 (i .revision) v in
+    let other : i .revision ≢ 2 = eqb-false (i .revision) 2 e in
+    record {
+      checked = facts i (w, (n, (v, (k, (t, (a, (g, (r, tt))))))));
+      first-revision = omega (arith, some .0, some .1, other);
+      all-tracked = not-false _ u;
+    }
+  where
+    says : (v : Verdict) → bestSays (bestAnswered v i) .number ≡ 0 → verdictSays v ≡ 0
     says Accepted h = refl
     says (Refused r) h = h
 

@@ -13,22 +13,23 @@ use Rattle.rules.specs.Units.{more}
 use Rattle.rules.specs.Contents.{places, Target, Last, block, among, bit, hits, without, shared, held, size, targetOf}
 use Rattle.rules.specs.Filling.{Filled, filledAt, evenly, fillOne}
 use Rattle.rules.specs.Ordered.{remove}
+use Rattle.rules.specs.AnyTable.{access as accessOf, foldAt as foldAtOf, advance as advanceOf, run as runOfAny, paired as pairedOf, join as joinOf, joinAll as joinAllOf, enter as enterOf, node as nodeOf}
 use Rattle.rules.specs.Table.{State, unitsOf, noState, total, stateAt, Work}
 use Rattle.rules.specs.Step.{atRisk, missed, restOf, miss, successors, access}
 use Rattle.rules.specs.Fold.{meet, foldAt, folded}
-use Rattle.rules.specs.Join.{Match, matched, paired, fromFront, join}
-use Rattle.rules.specs.Run.{advance, run}
+use Rattle.rules.specs.Join.{Match, matched, fromFront, join}
+use Rattle.rules.specs.Run.{run}
 use Rattle.rules.specs.Input.{Input, nodes, runOf, edgesOf, predecessors}
-use Rattle.rules.specs.Graph.{Worked, tableAt, joinAll, atStart, enter, node, worked, finished}
+use Rattle.rules.specs.Graph.{Worked, tableAt, joinAll, atStart, enter, worked, finished}
 use Rattle.rules.specs.Shape.{Every, Table}
 use Rattle.rules.proofs.Lists.{every-append, every-map, every-flatMap, every-weaker, every-remove, every-at}
 use Rattle.rules.proofs.Contents.{every-held}
 use Rattle.rules.proofs.Filling.{no-more, evenly-at, evenly-fullest, evenly-none}
 use Rattle.rules.proofs.Sets.{risk-set}
 use Rattle.rules.proofs.Table.{every-add}
-use Rattle.rules.proofs.Fold.{firstOf, secondOf, othersOf, folded-keeps}
+use Rattle.rules.proofs.Fold.{firstOf, secondOf, othersOf, folded-keeps, states-keep}
 use Rattle.rules.proofs.Join.{front-uses}
-use Rattle.rules.proofs.Run.{table-join}
+use Rattle.rules.proofs.AnyTable.{sound-join}
 use Rattle.rules.proofs.Refusals.{Checked, predecessor-lower}
 use Rattle.rules.proofs.Graph.{nodeTable, table-stays, finished-table, first-and-others, each-node, node-table}
 
@@ -50,7 +51,7 @@ module _ (N Z : ℕ) (few : N ≤ 16) (few-sets : Z ≤ 16) where
     pub full-risk : (C : ℕ) → atRisk N x all C ≡ shared C (x .mates)
     full-risk C = risk-set N x all C (le-of-eq (sym (all-at (x .set) one)))
 
-    full-more : fillOne N (x .set) all ≡ all
+    pub full-more : fillOne N (x .set) all ≡ all
     full-more = no-more N few (x .set) (omega arith) all (le-of-eq (sym (all-at (x .set) one)))
 
     full-missed : (s : State) (C u : ℕ) → Full s → unitsOf (missed N x s C u) ≢ 0 → Full (missed N x s C u)
@@ -81,7 +82,7 @@ module _ (N Z : ℕ) (few : N ≤ 16) (few-sets : Z ≤ 16) where
             (full-missed s (s .mask) ((N - size E) * q) f, (full-missed s (restOf (s .mask) E) (unitsOf s % N) f, tt))
 
     full-access : (T : List State) → Every Full T → Every Full (access N x T)
-    unfolding access
+    unfolding accessOf
     full-access T h =
         every-add Full (λ t s f. f) (flatMap (successors N x) T) []
         (every-flatMap Full (λ t. unitsOf t ≢ 0 → Full t) (successors N x) full-successors T h) tt
@@ -103,7 +104,7 @@ module _ (N Z : ℕ) (few : N ≤ 16) (few-sets : Z ≤ 16) where
   full-meet s t u (inr a) (inr b) none n = absurd (n (none a b))
 
   full-fold : (p : Pair) (w : Work) → Every Full (w .table) → Every Full (foldAt p w .table)
-  unfolding foldAt more
+  unfolding foldAtOf more
   full-fold p w h =
       every-add Full (λ t s f. f) _ (othersOf p (w .table)) (
         full-meet (firstOf p (w .table)) (secondOf p (w .table)) _ (known-at (p .fewest) (w .table) h) (known-at (p .partner) (remove (p .fewest) (w .table)) out)
@@ -121,13 +122,13 @@ module _ (N Z : ℕ) (few : N ≤ 16) (few-sets : Z ≤ 16) where
   -- ---- a run, and a join
 
   full-run : (K : ℕ) (ts : List ℕ) → 0 < Z → (l : Last) (bs : List ℕ) (w : Work) → Every Full (w .table) → Every Full (run N Z K ts l bs w .table)
-  unfolding run advance targetOf
+  unfolding runOfAny advanceOf targetOf
   full-run K ts sets l [] w h = h
   full-run K ts sets l (b ∷ bs) w h =
       full-run K ts sets (block b) bs _ (full-folded K _ (full-access (targetOf Z ts l b) (mod-lt b sets) (w .table) h))
 
   full-join : (S T : List State) → total S ≡ total T → Every Full S → Every Full T → Every Full (join S T)
-  unfolding join paired
+  unfolding joinOf pairedOf
   full-join S T e a b =
       let (l, r) = front-uses S T e in
       every-add Full (λ t s f. f) (map (matched S T) (fromFront S T)) [] (each (fromFront S T) (l .exist) (r .exist)) tt
@@ -161,18 +162,18 @@ module _ (i : Input) (ok : Checked i) (first : i .revision ≡ 1) where
     Good T = Table N Z (i .tracked) K M T × AllFull T
 
     full-joinAll : (is : List ℕ) (w : Work) → ((j : ℕ) → among is j ≡ true → Good (tableAt d j)) → Good (w .table) → AllFull (joinAll K d is w .table)
-    unfolding joinAll
+    unfolding joinAllOf
     full-joinAll [] w h g = g .1
     full-joinAll (a ∷ is) w h g =
         let (p, rest) = first-and-others (λ j. Good (tableAt d j)) a is h in
         full-joinAll is _ rest (
-          table-join N Z (i .tracked) K (ok .some-ways) (ok .few-ways) room M (w .table) (tableAt d a) (w .aside) (g .0) (p .0),
+          sound-join (states-keep N Z (i .tracked)) K room M (w .table) (tableAt d a) (w .aside) (g .0) (p .0),
           full-folded N Z (ok .few-ways) (ok .few-sets) K _
               (full-join N Z (ok .few-ways) (ok .few-sets) (w .table) (tableAt d a) (g .0 .full ∙ sym (p .0 .full)) (g .1) (p .1)),
         )
 
     full-enter : (is : List ℕ) → ((j : ℕ) → among is j ≡ true → Good (tableAt d j)) → AllFull (enter K (atStart i) d is .table)
-    unfolding enter atStart
+    unfolding enterOf atStart
     full-enter [] h = (rw first, tt)
     full-enter (a ∷ is) h =
         let (p, rest) = first-and-others (λ j. Good (tableAt d j)) a is h in
@@ -180,7 +181,7 @@ module _ (i : Input) (ok : Checked i) (first : i .revision ≡ 1) where
 
   -- the finished table too
   pub finished-full : AllFull (finished i .table)
-  unfolding node
+  unfolding nodeOf
   finished-full =
       rw (finished-table i (ok .some-nodes))
       (each-node i ok (λ n. AllFull (nodeTable i n)) step (nodes i - 1) (omega (arith, ok .some-nodes)))

@@ -15,9 +15,10 @@ use Rattle.rules.specs.declared.Outcome.the-variants.{Finished}
 use Rattle.rules.specs.Units.{units}
 use Rattle.rules.specs.Contents.{Last}
 use Rattle.rules.specs.Input.{Input, inputIn, inputOf, runOf, edgesOf, predecessors}
+use Rattle.rules.specs.AnyTable.{Kind, Worked as AnyWorked, run as runAny, enter as enterAny, node as nodeOf, worked as workedOf, finished as finishedOf}
 use Rattle.rules.specs.Table.{Work}
-use Rattle.rules.specs.Graph.{Worked, tableAt, atStart, enter, lastBefore, nodeLast, lastsTo, node, worked, finished}
-use Rattle.rules.specs.Run.{run}
+use Rattle.rules.specs.Graph.{Worked, tableAt, atStart, lastBefore, nodeLast, lastsTo, worked, finished}
+use Rattle.rules.specs.Fold.{states}
 use Rattle.rules.specs.Refusals.{outside, reasons, verdict, answered, outcome}
 use Rattle.rules.proofs.Refusals.{within}
 
@@ -31,17 +32,27 @@ module _ (c : Cache) (K : ℕ) (ts ns bs es : List ℕ) (r w : ℕ) where
   same-lasts zero = refl
   same-lasts (suc n) = ap (λ (ls : List Last). ls ++ (nodeLast (inputIn c K ts ns bs es r w) n ls ∷ [])) (same-lasts n)
 
+  -- for any kind of table whose start does not look at the rooms
+  module _ {A : Type 0} (k : Kind A) (starts : k .start (inputOf c K ts ns bs es) ≡ k .start (inputIn c K ts ns bs es r w)) where
+    pub same-worked-any : (n : ℕ) → workedOf k (inputOf c K ts ns bs es) n ≡ workedOf k (inputIn c K ts ns bs es r w) n
+    unfolding workedOf nodeOf runOf
+    same-worked-any zero = refl
+    same-worked-any (suc n) =
+        ap₂ (λ (d : AnyWorked A) (ls : List Last). after (k .start (inputOf c K ts ns bs es)) d ls) (same-worked-any n) (same-lasts n)
+        ∙ ap (λ (s : A). after s (workedOf k (inputIn c K ts ns bs es r w) n) (lastsTo (inputIn c K ts ns bs es r w) n)) starts
+      where
+        after : A → AnyWorked A → List Last → AnyWorked A
+        after s d ls =
+            let ps = predecessors (edgesOf es) n in
+            let v = runAny k (c .ways) (c .sets) K ts (lastBefore ls ps) (runOf (inputOf c K ts ns bs es) n) (enterAny k K s d ps) in
+            record { tables = d .tables ++ (v .table ∷ []); aside = v .aside }
+
   pub same-worked : (n : ℕ) → worked (inputOf c K ts ns bs es) n ≡ worked (inputIn c K ts ns bs es r w) n
-  unfolding worked node atStart runOf
-  same-worked zero = refl
-  same-worked (suc n) =
-      ap₂
-      (λ (d : Worked) (ls : List Last). let ps = predecessors (edgesOf es) n in
-      let v = run (c .ways) (c .sets) K ts (lastBefore ls ps) (runOf (inputOf c K ts ns bs es) n) (enter K (atStart (inputOf c K ts ns bs es)) d ps) in
-      record { tables = d .tables ++ (v .table ∷ []); aside = v .aside }) (same-worked n) (same-lasts n)
+  unfolding atStart
+  same-worked n = same-worked-any states refl n
 
   pub same-finished : finished (inputOf c K ts ns bs es) ≡ finished (inputIn c K ts ns bs es r w)
-  unfolding finished
+  unfolding finishedOf
   same-finished = ap (λ (d : Worked). record { table = tableAt d (length ns - 1); aside = d .aside }) (same-worked (length ns))
 
   module _ (result : 64 ≤ r) (working : 5184 ≤ w) where

@@ -14,9 +14,10 @@ use Rattle.rules.specs.Units.{units}
 use Rattle.rules.specs.Contents.{Place, at, untracked, has, Last, find, hits, targetOf, lastAfter}
 use Rattle.rules.specs.Input.{Start, cold, warm, Input, cache, inputIn, nodes, runOf, edgesOf, predecessors}
 use Rattle.rules.specs.Filling.{filledAt}
+use Rattle.rules.specs.AnyTable.{node as nodeOf, worked as workedOf, finished as finishedOf}
 use Rattle.rules.specs.Table.{Work}
 use Rattle.rules.specs.Run.{run}
-use Rattle.rules.specs.Graph.{Worked, tableAt, startsEmpty, atStart, enter, lastBefore, nodeLast, lastsTo, node, worked, finished}
+use Rattle.rules.specs.Graph.{Worked, tableAt, startsEmpty, atStart, enter, lastBefore, nodeLast, lastsTo, worked, finished}
 use Rattle.rules.specs.Refusals.{reasons, verdict, answered, outcome}
 use Rattle.rules.proofs.Bits.{bit-zero}
 use Rattle.rules.proofs.Filling.{evenly-at}
@@ -57,7 +58,7 @@ module _ (Z N K : ℕ) (ts ns bs es : List ℕ) (r w : ℕ) where
       ap (λ (ls : List Last). ls ++ (lastAfter (lastBefore ls (predecessors (edgesOf es) n)) (runOf (started cold) n) ∷ [])) (lasts-either n)
 
   worked-either : (n : ℕ) → worked (started cold) n ≡ worked (started warm) n
-  unfolding worked node atStart runOf
+  unfolding workedOf nodeOf atStart runOf
   worked-either zero = refl
   worked-either (suc n) =
       ap₂
@@ -68,7 +69,7 @@ module _ (Z N K : ℕ) (ts ns bs es : List ℕ) (r w : ℕ) where
       (lasts-either n) (worked-either n)
 
   finished-either : finished (started cold) ≡ finished (started warm)
-  unfolding finished
+  unfolding finishedOf
   finished-either =
       ap (λ (d : Worked). record { table = tableAt d (nodes (started cold) - 1); aside = d .aside }) (worked-either (nodes (started cold)))
 

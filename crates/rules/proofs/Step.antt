@@ -6,7 +6,7 @@ use mathlib.Core.Logic.{_≢_}
 use mathlib.Core.Bool.{Bool, true, false, cond, _||_}
 use mathlib.Core.List.{List, [], _∷_, _++_, map, flatMap}
 use Prim.Native.Nat.{ℕ, suc, _+_, _-_, _*_, _/_, _%_, _^_, _≤_, _<_}
-use native.Mathlib.Nat.{le-step, suc-le-suc-iff, pos-of-ne-zero, div-add-mod, eq-of-mul-eq-mul-left}
+use native.Mathlib.Nat.{le-step, suc-le-suc-iff, div-add-mod, eq-of-mul-eq-mul-left}
 use native.Mathlib.Decide.{decLt}
 use native.Mathlib.Omega.{arith}
 use lib.Dec.{eqb}
@@ -18,15 +18,16 @@ use Rattle.basics.proofs.Sums.{sum-append, sum-map, sum-times, sum-each, on-non
 use Rattle.rules.specs.Contents.{places, Target, bit, hits, with, without, held, size}
 use Rattle.rules.specs.Filling.{Filled, fillOne}
 use Rattle.rules.specs.Units.{whole}
-use Rattle.rules.specs.Table.{State, unitsOf, plus, present, total}
+use Rattle.rules.specs.AnyTable.{total as totalOf, access as accessOf}
+use Rattle.rules.specs.Table.{State, unitsOf, listing, present, total}
 use Rattle.rules.specs.Step.{atRisk, missed, restOf, miss, successors, leftOver, access}
-use Rattle.rules.specs.Shape.{Every, Aimed, Room, Shaped}
-use Rattle.rules.proofs.Splitting.{more-least}
-use Rattle.rules.proofs.Lists.{every-append, every-map, every-flatMap}
+use Rattle.rules.specs.Shape.{Every, Aimed, Room, Loose}
+use Rattle.rules.proofs.Lists.{every-append, every-map, every-weaker}
 use Rattle.rules.proofs.Bits.{bit-zero}
 use Rattle.rules.proofs.Contents.{sum-held, size-zero, every-held, with-lt, without-lt}
 use Rattle.rules.proofs.Sets.{risk-sub, room-joined, room-moved, room-alone}
-use Rattle.rules.proofs.Table.{length-present-append, length-present, every-add, Weight, worthOf, worth, worth-add, total-add, one, worth-total}
+use Rattle.rules.proofs.Listings.{length-follow}
+use Rattle.rules.proofs.Table.{length-present-append, length-present, Weight, worthOf, worth, worth-add, total-add, one, worth-total}
 
 -- ---- worth
 
@@ -167,52 +168,51 @@ ahead-one N x C m F h = go (hits x C)
 
 module _ (N : ℕ) (x : Target) (some : 0 < N) where
   -- all units go on
-  successors-total : (T : List State) → Fits N x T → total (flatMap (successors N x) T) ≡ total T
-  successors-total T h =
-      rw (← worth-total (flatMap (successors N x) T), ← worth-total T)
-      (eq-of-mul-eq-mul-left N some _ _ (omega (arith, worth-all N x one T, units T h, shares T h)))
-    where
-      units : (T : List State) → Fits N x T → worth (ahead N x one) T ≡ N * worth one T
-      units [] h = omega arith
-      units (s ∷ T) h = rw (ahead-one N x (s .mask) (s .misses) (s .filled) (h .0)) (omega (arith, units T (h .1)))
+  pub one-total : (s : State) → size (atRisk N x (s .filled) (s .mask)) ≤ N → total (successors N x s) ≡ unitsOf s
+  one-total s h =
+      rw (← worth-total (successors N x s))
+      (eq-of-mul-eq-mul-left N some _ _
+      (omega (
+        arith,
+        worth-successors N x one s,
+        ap (unitsOf s *_) (ahead-one N x (s .mask) (s .misses) (s .filled) h),
+        ap (leftOver N x s *_) (ahead-one N x (s .mask) (s .misses) (s .filled) h),
+      )))
 
-      shares : (T : List State) → Fits N x T
-          → sumOver (λ s. leftOver N x s * aheadOf N x one s) T ≡ N * sumOver (λ s. leftOver N x s * 1) T
-      shares [] h = omega arith
-      shares (s ∷ T) h = rw (ahead-one N x (s .mask) (s .misses) (s .filled) (h .0)) (omega (arith, shares T (h .1)))
+  successors-total : (T : List State) → Fits N x T → total (flatMap (successors N x) T) ≡ total T
+  unfolding totalOf flatMap
+  successors-total [] h = refl
+  successors-total (s ∷ T) h =
+      sum-append unitsOf (successors N x s) (flatMap (successors N x) T) ∙ omega (arith, one-total s (h .0), successors-total T (h .1))
 
   module _ (T : List State) (fits : Fits N x T) (full : total T ≤ whole) where
     room-to-add : total (flatMap (successors N x) T) + total [] ≤ whole
-    unfolding total
+    unfolding totalOf
     room-to-add = omega (arith, successors-total T fits)
 
     -- what the table is worth to the access ahead, and N times what it is worth after it
     pub worth-access : (f : Weight)
         → N * worth f (access N x T) + sumOver (λ s. leftOver N x s * aheadOf N x f s) T
         ≡ worth (ahead N x f) T + N * sumOver (λ s. leftOver N x s * alone N x f s) T
-    unfolding access
+    unfolding accessOf
     worth-access f =
         let added : worth f (access N x T) ≡ worth f (flatMap (successors N x) T) + worth f [] = worth-add f (flatMap (successors N x) T) [] room-to-add in
         omega (arith, ap (N *_) added, worth-all N x f T)
 
     pub access-total : total (access N x T) ≡ total T
-    unfolding access total
+    unfolding accessOf totalOf
     access-total = total-add (flatMap (successors N x) T) [] room-to-add ∙ omega (arith, successors-total T fits)
 
 -- ---- shape
 
-pub shaped-plus : (N Z : ℕ) (ts : List ℕ) (M : ℕ) (t s : State) → Shaped N Z ts M t → Shaped N Z ts M (plus t s)
-shaped-plus N Z ts M t s h = (record { masked = h .0 .masked; few = h .0 .few; small = h .0 .small }, more-least (unitsOf t) (unitsOf s) (h .1))
-
 module _ (N Z : ℕ) (ts : List ℕ) (M : ℕ) (x : Target) (some : 0 < N) (few : N ≤ 16) (aim : Aimed Z ts x) where
   -- a state of the list, if it has units
   abbrev After : State → Type 0
-  After t = unitsOf t ≢ 0 → Shaped N Z ts (suc M) t
+  After t = unitsOf t ≢ 0 → Loose N Z ts (suc M) t
 
-  missed-shaped : (s : State) (C u : ℕ) → s .misses ≤ M → C < 2 ^ length ts → Room N Z ts (with C (x .place)) (fillOne N (x .set) (s .filled)) → u ≢ 0
-      → Shaped N Z ts (suc M) (missed N x s C u)
-  missed-shaped s C u m c r n =
-      (record { masked = with-lt (length ts) C (x .place) c (aim .placed); few = suc-le-suc-iff .1 m; small = r }, pos-of-ne-zero n)
+  missed-loose : (s : State) (C u : ℕ) → s .misses ≤ M → C < 2 ^ length ts → Room N Z ts (with C (x .place)) (fillOne N (x .set) (s .filled))
+      → Loose N Z ts (suc M) (missed N x s C u)
+  missed-loose s C u m c r = record { masked = with-lt (length ts) C (x .place) c (aim .placed); few = suc-le-suc-iff .1 m; small = r }
 
   -- where units go to contents that lose nothing, there is a way that holds none of them
   left : (E q : ℕ) → (N - size E) * q ≢ 0 → size E < N
@@ -225,9 +225,9 @@ module _ (N Z : ℕ) (ts : List ℕ) (M : ℕ) (x : Target) (some : 0 < N) (few 
       go (yes l) = l
       go (no l) = absurd (n (full (N - size E) (omega arith)))
 
-  successors-shaped : (s : State) → Shaped N Z ts M s → Every After (successors N x s)
+  pub successors-loose : (s : State) → Loose N Z ts M s → Every After (successors N x s)
   unfolding successors miss
-  successors-shaped s h = go (hits x (s .mask))
+  successors-loose s h = go (hits x (s .mask))
     where
       C : ℕ
       C = s .mask
@@ -241,31 +241,25 @@ module _ (N Z : ℕ) (ts : List ℕ) (M : ℕ) (x : Target) (some : 0 < N) (few 
       lost : Every After (map (λ e. missed N x s (without C e) q) (held E))
       lost =
           every-map (λ e. (e < places) × (bit E e ≡ true)) After (λ e. missed N x s (without C e) q)
-          (λ e p. missed-shaped s (without C e) q (h .0 .few) (without-lt (length ts) C e (h .0 .masked) (risk-sub N x (s .filled) C e (p .1)))
-          (room-moved N Z ts few x aim C e (s .filled) (h .0 .small) (p .0) (p .1)))
+          (λ e p n. missed-loose s (without C e) q (h .few) (without-lt (length ts) C e (h .masked) (risk-sub N x (s .filled) C e (p .1)))
+          (room-moved N Z ts few x aim C e (s .filled) (h .small) (p .0) (p .1)))
           (held E) (every-held E)
 
       kept : After (missed N x s C ((N - size E) * q))
-      kept n = missed-shaped s C _ (h .0 .few) (h .0 .masked) (room-joined N Z ts few x aim C (s .filled) (h .0 .small) (left E q n)) n
+      kept n = missed-loose s C _ (h .few) (h .masked) (room-joined N Z ts few x aim C (s .filled) (h .small) (left E q n))
 
       rest : After (missed N x s (restOf C E) (unitsOf s % N))
       rest n = where-to (eqb E 0) refl
         where
-          where-to : (z : Bool) → eqb E 0 ≡ z → Shaped N Z ts (suc M) (missed N x s (cond z C 0) (unitsOf s % N))
+          where-to : (z : Bool) → eqb E 0 ≡ z → Loose N Z ts (suc M) (missed N x s (cond z C 0) (unitsOf s % N))
           where-to true e =
-              missed-shaped s C _ (h .0 .few) (h .0 .masked)
-              (room-joined N Z ts few x aim C (s .filled) (h .0 .small) (omega (arith, ap size (eqb-true E 0 e), size-zero))) n
-          where-to false e = missed-shaped s 0 _ (h .0 .few) (pow-pos (length ts)) (room-alone N Z ts few x aim some C (s .filled) (h .0 .small)) n
+              missed-loose s C _ (h .few) (h .masked)
+              (room-joined N Z ts few x aim C (s .filled) (h .small) (omega (arith, ap size (eqb-true E 0 e), size-zero)))
+          where-to false e = missed-loose s 0 _ (h .few) (pow-pos (length ts)) (room-alone N Z ts few x aim some C (s .filled) (h .small))
 
       go : (a : Bool) → Every After (cond a (s ∷ []) (map (λ e. missed N x s (without C e) q) (held E) ++ missed N x s C ((N - size E) * q) ∷ missed N x s (restOf C E) (unitsOf s % N) ∷ []))
-      go true = (λ n. (record { masked = h .0 .masked; few = le-step (h .0 .few); small = h .0 .small }, h .1), tt)
+      go true = (λ n. record { masked = h .masked; few = le-step (h .few); small = h .small }, tt)
       go false = every-append After (map (λ e. missed N x s (without C e) q) (held E)) _ lost (kept, (rest, tt))
-
-  pub access-shaped : (T : List State) → Every (Shaped N Z ts M) T → Every (Shaped N Z ts (suc M)) (access N x T)
-  unfolding access
-  access-shaped T h =
-      every-add (Shaped N Z ts (suc M)) (shaped-plus N Z ts (suc M)) (flatMap (successors N x) T) []
-      (every-flatMap (Shaped N Z ts M) After (successors N x) successors-shaped T h) tt
 
 -- ---- how many are listed
 
@@ -313,7 +307,6 @@ module _ (N : ℕ) (x : Target) where
 
   -- at most N + 1 for each state, 17 with 16 ways
   pub length-access : (T : List State) → Fits N x T → length (present (flatMap (successors N x) T)) ≤ length T * suc N
-  unfolding flatMap
-  length-access [] h = omega arith
-  length-access (s ∷ T) h =
-      omega (arith, length-present-append (successors N x s) (flatMap (successors N x) T), length-successors s (h .0), length-access T (h .1))
+  length-access T h =
+      length-follow listing (suc N) (successors N x) T
+      (every-weaker (λ s. size (atRisk N x (s .filled) (s .mask)) ≤ N) (λ s. length (present (successors N x s)) ≤ suc N) length-successors T h)

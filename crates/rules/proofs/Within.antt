@@ -12,6 +12,7 @@ use borrow.Author.Tests.{le-leb, lt-leb, le-ltb}
 use Rattle.basics.specs.Sums.{sumOver}
 use Rattle.basics.proofs.Sums.{sum-append}
 use Rattle.rules.specs.Table.{State, total}
+use Rattle.rules.specs.Counts.{spread as spreadOf}
 use Rattle.rules.specs.Questions.{isTable, largest, spread, above, smallestBudget, spreadAnswer}
 use Rattle.rules.specs.Within.{sumAbove, isWithin}
 use Rattle.rules.proofs.Questions.{above-largest, length-counts, spread-above, smallest-serves, none-smaller}
@@ -25,7 +26,7 @@ beyond-yes row B u l = rw (drop-of-length-le row l) (le-leb 0 u (omega arith))
 
 -- its numbers make the total
 spread-total : (T : List State) → sumOver (λ n. n) (spread T) ≡ total T
-unfolding spread
+unfolding spreadOf
 spread-total T =
     let all = take-all (suc (largest T)) (spread T) (omega (arith, length-counts (suc (largest T)) T)) in
     rw (← all) (omega (arith, spread-above (largest T) T, above-largest (largest T) T (omega arith)))

@@ -3,15 +3,21 @@ use mathlib.Core.Bool.{Bool, cond}
 use mathlib.Core.List.{List, [], _∷_}
 use Prim.Native.Nat.{ℕ}
 use Rattle.rules.specs.declared.Refusal.{Refusal}
-use Rattle.rules.specs.declared.Refusal.the-variants.{Text, Ways, Limit, Tracked, Accesses, Graph, Room, Row, SpreadRoom, Sets, Revision, NoCore, TraceLength, TraceRoom, ListingRoom, Listing, Expansion, Nightly}
+use Rattle.rules.specs.declared.Refusal.the-variants.{Text, Ways, Limit, Tracked, Accesses, Graph, Room, Row, SpreadRoom, Sets, Revision, NoCore, UntrackedAccess, SecondRevision, TraceLength, TraceRoom, ListingRoom, Listing, Expansion, Nightly}
 use Rattle.rules.specs.declared.Verdict.{Verdict}
 use Rattle.rules.specs.declared.Verdict.the-variants.{Accepted, Refused}
 use Rattle.rules.specs.declared.Outcome.{Outcome}
 use Rattle.rules.specs.declared.Outcome.the-variants.{Finished, Refused as RefusedOutcome}
+use Rattle.rules.specs.declared.BestOutcome.{BestOutcome}
+use Rattle.rules.specs.declared.BestOutcome.the-variants.{Finished as BestFinished, Refused as RefusedBest}
 use Rattle.rules.specs.declared.Amount.{Amount}
 use Rattle.rules.specs.declared.Amount.the-variants.{Units as AmountOf, Refused as RefusedAmount}
 use Rattle.rules.specs.declared.Count.{Count}
 use Rattle.rules.specs.declared.Count.the-variants.{Misses, Refused as RefusedCount}
+use Rattle.rules.specs.declared.MissCount.{MissCount}
+use Rattle.rules.specs.declared.MissCount.the-variants.{Largest as LargestMisses, Refused as RefusedMisses}
+use Rattle.rules.specs.declared.HitCount.{HitCount}
+use Rattle.rules.specs.declared.HitCount.the-variants.{Largest as LargestHits, Refused as RefusedHits}
 use Rattle.rules.specs.declared.Time.{Time}
 use Rattle.rules.specs.declared.Time.the-variants.{Cycles, Refused as RefusedTime}
 use Rattle.rules.specs.declared.Length.{Length}
@@ -31,6 +37,8 @@ numberOf SpreadRoom = 8
 numberOf Sets = 10
 numberOf Revision = 11
 numberOf NoCore = 16
+numberOf UntrackedAccess = 17
+numberOf SecondRevision = 18
 numberOf TraceLength = 12
 numberOf TraceRoom = 21
 numberOf ListingRoom = 22
@@ -77,6 +85,11 @@ pub record AnswerSays : Type 0 where
   pub number : ℕ
   pub value : ℕ
 
+-- of the best case's outcome: the number of states
+abbrev pub bestSays : BestOutcome → AnswerSays
+bestSays (BestFinished n) = record { number = 0; value = n }
+bestSays (RefusedBest r) = record { number = numberOf r; value = 0 }
+
 -- of an answer in units
 abbrev pub amountSays : Amount → AnswerSays
 amountSays (AmountOf u) = record { number = 0; value = u .0 }
@@ -86,6 +99,15 @@ amountSays (RefusedAmount r) = record { number = numberOf r; value = 0 }
 abbrev pub countSays : Count → AnswerSays
 countSays (Misses m) = record { number = 0; value = m }
 countSays (RefusedCount r) = record { number = numberOf r; value = 0 }
+
+-- of the best case's answers in misses, and in hits
+abbrev pub missCountSays : MissCount → AnswerSays
+missCountSays (LargestMisses m) = record { number = 0; value = m .0 }
+missCountSays (RefusedMisses r) = record { number = numberOf r; value = 0 }
+
+abbrev pub hitCountSays : HitCount → AnswerSays
+hitCountSays (LargestHits h) = record { number = 0; value = h .0 }
+hitCountSays (RefusedHits r) = record { number = numberOf r; value = 0 }
 
 -- of an answer in cycles
 abbrev pub timeSays : Time → AnswerSays

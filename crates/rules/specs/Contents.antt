@@ -23,6 +23,11 @@ abbrev pub among : List ℕ → ℕ → Bool
 among [] b = false
 among (t ∷ ts) b = eqb t b || among ts b
 
+-- every access of a list is to a tracked block
+abbrev pub allTracked : List ℕ → List ℕ → Bool
+allTracked ts [] = true
+allTracked ts (b ∷ bs) = among ts b && allTracked ts bs
+
 -- no block is listed twice
 abbrev pub once : List ℕ → Bool
 once [] = true

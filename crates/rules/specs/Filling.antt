@@ -1,10 +1,11 @@
 -- How many ways of each set may be filled: document 02, request 6/13. Sixteen numbers, set 0 first, in two words of eight bytes.
-use mathlib.Core.Bool.{Bool, cond, _&&_}
+use mathlib.Core.Bool.{Bool, true, false, cond, _&&_}
 use mathlib.Core.List.{List, [], _∷_, _++_}
 use Prim.Native.Nat.{ℕ, zero, suc, _+_, _-_, _*_, _/_, _%_, max}
 use lib.Dec.{eqb, ltb}
 use lib.ListN.{length, getD, set, take, drop, replicate}
 pub use Rattle.rules.specs.declared.Filled.{Filled}
+use Rattle.rules.specs.Input.{Start, cold, warm, Input}
 
 -- the n lowest bytes of a word, the highest of them first
 unfoldable pub bytesOf : ℕ → ℕ → List ℕ
@@ -55,3 +56,18 @@ fullest F G = filledFrom (largerOf (numbersOf F) (numbersOf G))
 -- they are the same numbers
 abbrev pub sameFilled : Filled → Filled → Bool
 sameFilled F G = eqb (F .front) (G .front) && eqb (F .back) (G .back)
+
+-- ---- at the start (document 02, requests 6/13 and 12/13)
+
+-- the cache is found empty
+abbrev pub isCold : Start → Bool
+isCold cold = true
+isCold warm = false
+
+-- whether every way is known to be empty at the start, and stays so until a miss fills it: in the second revision, started cold
+abbrev pub startsEmpty : Input → Bool
+startsEmpty i = eqb (i .revision) 2 && isCold (i .start)
+
+-- how many ways may be filled at the start: none, or all, since any way may hold a block or be drawn
+unfoldable pub atStart : Input → Filled
+atStart i = evenly (i .sets) (cond (startsEmpty i) 0 (i .ways))

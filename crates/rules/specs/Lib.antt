@@ -4,8 +4,10 @@ pub mod Answers
 -- Section 2: what comes in
 pub mod Contents
 pub mod Input
+pub mod Lasts
 -- Section 3: states and steps
 pub mod Ordered
+pub mod AnyTable
 pub mod Filling
 pub mod Table
 pub mod Shape
@@ -14,8 +16,12 @@ pub mod Fold
 pub mod Run
 pub mod Join
 pub mod Graph
+-- Request 10/13: the best case's table
+pub mod Best
 -- Section 4: questions put to a finished table
+pub mod Counts
 pub mod Questions
+pub mod BestQuestions
 -- Section 5: when the work says no
 pub mod Refusals
 -- Request 9/13: curves in cycles

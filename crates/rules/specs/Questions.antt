@@ -1,10 +1,9 @@
 -- Questions put to a finished table: document 01, section 4.
-use mathlib.Core.Bool.{Bool, true, false, cond, _&&_, not}
+use mathlib.Core.Bool.{Bool, true, false, _&&_, not}
 use mathlib.Core.List.{List, [], _∷_, _++_}
-use Prim.Native.Nat.{ℕ, zero, suc, _-_, max}
+use Prim.Native.Nat.{ℕ, zero, suc, _-_}
 use lib.Dec.{eqb, leb, ltb}
 use lib.ListN.{length, replicate}
-use Rattle.basics.specs.Sums.{sumOver}
 use Rattle.rules.specs.declared.Refusal.the-variants.{Row, SpreadRoom}
 use Rattle.rules.specs.declared.Verdict.{Verdict}
 use Rattle.rules.specs.declared.Verdict.the-variants.{Accepted, Refused}
@@ -15,6 +14,7 @@ use Rattle.rules.specs.declared.Count.the-variants.{Misses, Refused as R
 use Rattle.rules.specs.Units.{whole, units}
 use Rattle.rules.specs.Answers.{Reason, when, first}
 use Rattle.rules.specs.Filling.{numbersOf}
+use Rattle.rules.specs.Counts.{unitsAt as unitsAtOf, largest as largestOf, countsBelow as countsBelowOf, spread as spreadOf, above as aboveOf}
 use Rattle.rules.specs.Table.{State, unitsOf, rising, total}
 
 -- ---- what is accepted as a table
@@ -39,27 +39,29 @@ isTable T = leb 1 (length T) && leb (length T) 64 && rising T && allFitting T &&
 
 -- ---- what is asked of it
 
+-- the misses of a state, the count that is asked about
+abbrev pub missesOf : State → ℕ
+missesOf s = s .misses
+
 -- the units at m misses
-unfoldable pub unitsAt : ℕ → List State → ℕ
-unitsAt m T = sumOver (λ s. cond (eqb (s .misses) m) (unitsOf s) 0) T
+abbrev pub unitsAt : ℕ → List State → ℕ
+unitsAt m T = unitsAtOf unitsOf missesOf m T
 
 -- the largest miss count present
-unfoldable pub largest : List State → ℕ
-largest [] = 0
-largest (s ∷ T) = max (s .misses) (largest T)
+abbrev pub largest : List State → ℕ
+largest T = largestOf missesOf T
 
 -- the units at each miss count below n
 abbrev pub countsBelow : ℕ → List State → List ℕ
-countsBelow zero T = []
-countsBelow (suc m) T = countsBelow m T ++ (unitsAt m T ∷ [])
+countsBelow n T = countsBelowOf unitsOf missesOf n T
 
 -- the spread: the units at each miss count from 0 to the largest present
-unfoldable pub spread : List State → List ℕ
-spread T = countsBelow (suc (largest T)) T
+abbrev pub spread : List State → List ℕ
+spread T = spreadOf unitsOf missesOf T
 
 -- the units above a budget: misses strictly greater
-unfoldable pub above : ℕ → List State → ℕ
-above B T = sumOver (λ s. cond (ltb B (s .misses)) (unitsOf s) 0) T
+abbrev pub above : ℕ → List State → ℕ
+above B T = aboveOf unitsOf missesOf B T
 
 -- the least number from m on, n steps at most, that passes the test
 abbrev pub leastFrom : (ℕ → Bool) → ℕ → Bool → ℕ → ℕ

@@ -5,17 +5,20 @@ use Prim.Native.Nat.{ℕ, zero, suc}
 use lib.Dec.{eqb, ltb}
 use lib.ListN.{length}
 use Rattle.basics.specs.Sums.{sumOver}
-use Rattle.rules.specs.declared.Refusal.the-variants.{Ways, Sets, Revision, Limit, Tracked, Accesses, Graph, Room}
+use Rattle.rules.specs.declared.Refusal.the-variants.{Ways, Sets, Revision, Limit, Tracked, Accesses, Graph, Room, UntrackedAccess, SecondRevision}
 use Rattle.rules.specs.declared.Verdict.{Verdict}
 use Rattle.rules.specs.declared.Verdict.the-variants.{Accepted, Refused}
 use Rattle.rules.specs.declared.Outcome.{Outcome}
 use Rattle.rules.specs.declared.Outcome.the-variants.{Finished, Refused as RefusedOutcome}
+use Rattle.rules.specs.declared.BestOutcome.{BestOutcome}
+use Rattle.rules.specs.declared.BestOutcome.the-variants.{Finished as BestFinished, Refused as RefusedBest}
 use Rattle.rules.specs.Units.{units}
 use Rattle.rules.specs.Answers.{Reason, when, first}
-use Rattle.rules.specs.Contents.{among, once}
+use Rattle.rules.specs.Contents.{among, once, allTracked}
 use Rattle.rules.specs.Ordered.{Order, byTwo, rises}
 use Rattle.rules.specs.Input.{Input, nodes, Edge, edgesOf}
 use Rattle.rules.specs.Graph.{finished}
+use Rattle.rules.specs.Best.{bestTable}
 
 -- n is not one of low .. high
 abbrev pub outside : ℕ → ℕ → ℕ → Bool
@@ -61,19 +64,48 @@ edgesKept n ns = let es = edgesOf ns in inPairs ns && forward n es && rises edge
 abbrev pub setCounts : List ℕ
 setCounts = 1 ∷ 2 ∷ 4 ∷ 8 ∷ 16 ∷ []
 
+-- 1: the ways; 10: the set count; 11: the revision
+abbrev pub waysReason : Input → Reason
+waysReason i = when (outside 1 16 (i .ways)) Ways
+
+abbrev pub setsReason : Input → Reason
+setsReason i = when (not (among setCounts (i .sets))) Sets
+
+abbrev pub revisionReason : Input → Reason
+revisionReason i = when (outside 1 2 (i .revision)) Revision
+
+-- 2: the state limit; 3: the tracked blocks; 4: the number of accesses
+abbrev pub limitReason : Input → Reason
+limitReason i = when (outside 1 64 (i .limit)) Limit
+
+abbrev pub trackedReason : Input → Reason
+trackedReason i = when (ltb 16 (length (i .tracked)) || not (once (i .tracked))) Tracked
+
+abbrev pub accessesReason : Input → Reason
+accessesReason i = when (ltb 4096 (length (i .accesses))) Accesses
+
+-- 5: the nodes, the run lengths and the edges
+abbrev pub graphReason : Input → Reason
+graphReason i =
+    when
+    (outside 1 64 (nodes i) || not (eqb (sumOver (λ n. n) (i .lengths)) (length (i .accesses))) || not (edgesKept (nodes i) (i .edges)))
+    Graph
+
+-- 6: the rooms
+abbrev pub roomReason : Input → Reason
+roomReason i = when (ltb (i .resultRoom) (i .limit) || ltb (i .workingRoom) 5184) Room
+
 -- 1, 10, 11 and 2 to 6, in order
 unfoldable pub reasons : Input → List Reason
 reasons i =
-    when (outside 1 16 (i .ways)) Ways
-    ∷ when (not (among setCounts (i .sets))) Sets
-    ∷ when (outside 1 2 (i .revision)) Revision
-    ∷ when (outside 1 64 (i .limit)) Limit
-    ∷ when (ltb 16 (length (i .tracked)) || not (once (i .tracked))) Tracked
-    ∷ when (ltb 4096 (length (i .accesses))) Accesses
-    ∷ when
-    (outside 1 64 (nodes i) || not (eqb (sumOver (λ n. n) (i .lengths)) (length (i .accesses))) || not (edgesKept (nodes i) (i .edges)))
-    Graph
-    ∷ when (ltb (i .resultRoom) (i .limit) || ltb (i .workingRoom) 5184) Room
+    waysReason i
+    ∷ setsReason i
+    ∷ revisionReason i
+    ∷ limitReason i
+    ∷ trackedReason i
+    ∷ accessesReason i
+    ∷ graphReason i
+    ∷ roomReason i
     ∷ []
 
 -- the first reason that applies
@@ -90,3 +122,41 @@ answered (Refused r) i = RefusedOutcome r
 -- the answer: a refusal, or how many states there are and what is set aside
 unfoldable pub outcome : Input → Outcome
 outcome i = answered (verdict i) i
+
+-- ---- the best case: document 02, request 10/13
+
+-- 18: the second revision, for which there is no best case
+abbrev pub secondReason : Input → Reason
+secondReason i = when (eqb (i .revision) 2) SecondRevision
+
+-- 17: an accessed block that is not tracked
+abbrev pub untrackedReason : Input → Reason
+untrackedReason i = when (not (allTracked (i .tracked) (i .accesses))) UntrackedAccess
+
+-- 1, 10, 11, 18, 2 to 5, 17 and 6, in order
+unfoldable pub bestReasons : Input → List Reason
+bestReasons i =
+    waysReason i
+    ∷ setsReason i
+    ∷ revisionReason i
+    ∷ secondReason i
+    ∷ limitReason i
+    ∷ trackedReason i
+    ∷ accessesReason i
+    ∷ graphReason i
+    ∷ untrackedReason i
+    ∷ roomReason i
+    ∷ []
+
+-- the first reason that applies
+unfoldable pub bestVerdict : Input → Verdict
+bestVerdict i = first (bestReasons i)
+
+-- accepted: the number of states of the best case's table; refused: the refusal
+abbrev pub bestAnswered : Verdict → Input → BestOutcome
+bestAnswered Accepted i = BestFinished (length (bestTable i))
+bestAnswered (Refused r) i = RefusedBest r
+
+-- the answer: a refusal, or how many states the best case's table has
+unfoldable pub bestOutcome : Input → BestOutcome
+bestOutcome i = bestAnswered (bestVerdict i) i

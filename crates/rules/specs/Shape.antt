@@ -1,18 +1,32 @@
 -- What every table of the work is: code is held to it, and the laws in proofs/ show that each step keeps it.
 use mathlib.Core.Path.{_≡_}
-use mathlib.Core.Bool.{true}
+use mathlib.Core.Bool.{true, false}
 use mathlib.Core.List.{List, [], _∷_}
-use Prim.Native.Nat.{ℕ, _^_, _≤_, _<_}
+use Prim.Native.Nat.{ℕ, _+_, _^_, _≤_, _<_}
 use lib.ListN.{length}
 use Rattle.rules.specs.Units.{whole}
 use Rattle.rules.specs.Contents.{Place, Target, at, bit, shared, size, ofSet}
-use Rattle.rules.specs.Filling.{Filled, filledAt}
-use Rattle.rules.specs.Table.{State, unitsOf, rising, total}
+use Rattle.rules.specs.Filling.{Filled, filledAt, evenly}
+use Rattle.rules.specs.Ordered.{rises}
+use Rattle.rules.specs.AnyTable.{Listing, total}
+use Rattle.rules.specs.Table.{State, listing}
+use Rattle.rules.specs.Best.{BestState, missesOf, hitsOf}
 
 -- every element of a list has the property
 abbrev pub Every : {A : Type 0} → (A → Type 0) → List A → Type 0
 Every P [] = Unit {0}
 Every P (x ∷ xs) = P x × Every P xs
+
+-- P is so of s, and it has at least 1 unit
+abbrev pub Present : {A : Type 0} → Listing A → (A → Type 0) → A → Type 0
+Present l P s = P s × (1 ≤ l .units s)
+
+-- a table of at most K states, of each of which P is so: it rises, and its units total WHOLE
+pub record Sound {A : Type 0} (l : Listing A) (P : A → Type 0) (K : ℕ) (T : List A) : Type 0 where
+  pub rises : rises (l .order) T ≡ true
+  pub short : length T ≤ K
+  pub shaped : Every (Present l P) T
+  pub full : total l T ≡ whole
 
 -- x is one of k places, or untracked
 abbrev pub Listed : ℕ → Place → Type 0
@@ -39,11 +53,22 @@ module _ (N Z : ℕ) (ts : List ℕ) where
 
   -- and at least 1 unit
   abbrev pub Shaped : ℕ → State → Type 0
-  Shaped M s = Loose M s × (1 ≤ unitsOf s)
+  Shaped M s = Present listing (Loose M) s
 
   -- at most K states, after at most M accesses
-  pub record Table (K M : ℕ) (T : List State) : Type 0 where
-    pub rises : rising T ≡ true
-    pub short : length T ≤ K
-    pub shaped : Every (Shaped M) T
-    pub full : total T ≡ whole
+  abbrev pub Table : ℕ → ℕ → List State → Type 0
+  Table K M T = Sound listing (Loose M) K T
+
+-- ---- the best case's
+
+module _ (N Z : ℕ) (ts : List ℕ) where
+  -- contents of no more blocks of a set than ways, each of which may be filled
+  abbrev pub RoomFor : ℕ → Type 0
+  RoomFor C = Room N Z ts C (evenly 16 N)
+
+  -- a mask of a bit for each tracked block, no more blocks of a set than ways, the mask of an open state 0, and no more hits and misses than M
+  pub record BestLoose (M : ℕ) (s : BestState) : Type 0 where
+    pub masked : s .mask < 2 ^ length ts
+    pub small : RoomFor (s .mask)
+    pub nothing : s .exact ≡ false → s .mask ≡ 0
+    pub few : missesOf s + hitsOf s ≤ M

@@ -1,12 +1,13 @@
 -- One access: document 01, section 3; document 02, requests 1/13, 3/13, 4/13 and 6/13. N ways in a set; x is what the access is after.
 use mathlib.Core.Bool.{cond, _||_}
-use mathlib.Core.List.{List, [], _∷_, _++_, map, flatMap}
+use mathlib.Core.List.{List, [], _∷_, _++_, map}
 use Prim.Native.Nat.{ℕ, suc, _-_, _*_, _/_, _%_}
 use lib.Dec.{eqb, ltb}
 use Rattle.basics.specs.Sums.{sumOver}
 use Rattle.rules.specs.Contents.{Target, hits, with, without, shared, held, size}
 use Rattle.rules.specs.Filling.{Filled, filledAt, fillOne}
-use Rattle.rules.specs.Table.{State, state, unitsOf, add}
+use Rattle.rules.specs.AnyTable.{access as accessOf}
+use Rattle.rules.specs.Table.{State, state, unitsOf, listing}
 
 -- the blocks of C that a miss can evict: those of its own set, once every way of the set may be filled; none before
 unfoldable pub atRisk : ℕ → Target → Filled → ℕ → ℕ
@@ -43,9 +44,9 @@ unfoldable pub leftOver : ℕ → Target → State → ℕ
 leftOver N x s = cond (hits x (s .mask) || eqb (atRisk N x (s .filled) (s .mask)) 0) 0 (unitsOf s % N)
 
 -- the table after the access, before any fold
-unfoldable pub access : ℕ → Target → List State → List State
-access N x T = add (flatMap (successors N x) T) []
+abbrev pub access : ℕ → Target → List State → List State
+access N x T = accessOf listing (successors N x) T
 
 -- and what the access sets aside
-unfoldable pub accessAside : ℕ → Target → List State → ℕ
+abbrev pub accessAside : ℕ → Target → List State → ℕ
 accessAside N x T = sumOver (leftOver N x) T

@@ -3,7 +3,9 @@ ghost use mathlib.Core.Path.{_≡_};
 ghost use Rattle.rules.specs.Units.{splitOf, addOf};
 ghost use Rattle.rules.specs.Answers.{numberOf};
 ghost use Rattle.rules.specs.Ordered.{byNumber, thenBy, isBefore};
+ghost use mathlib.Core.Bool.{cond};
 ghost use Rattle.rules.specs.Table.{order};
+ghost use Rattle.rules.specs.Best.{order as bestOrder};
 ghost use Rattle.rules.specs.Cycles.{coreAt};
 
 // A probability: whole units of 2^-48.
@@ -70,6 +72,21 @@ pub struct State {
     pub units: Units,
 }
 
+// Hits and misses are counted separately in the best case's table, each as a type of its own, so that a hit count is never taken as a miss count:
+// document 02, request 10/13.
+pub struct Hits(pub u64);
+
+pub struct Misses(pub u64);
+
+// A state of that table. `exact`: the blocks of the mask are all that is held. Not `exact`, which is called open: anything may be held, and the mask is 0.
+pub struct BestState {
+    pub exact: bool,
+    pub mask: u64,
+    pub misses: Misses,
+    pub hits: Hits,
+    pub units: Units,
+}
+
 // Where an accessed block stands in the list of tracked blocks.
 pub enum Place {
     At(usize),
@@ -133,6 +150,35 @@ pub fn stands_before(s: State, t: State) -> bool
     precedes(f.front, f.back, g.front, g.back)
 }
 
+// Where a state of the best case's table stands as to exactness: 0 for an exact state, 1 for an open one.
+pub fn open_flag(exact: bool) -> u64
+    ensures { λ r. ⌜ r ≡ cond exact 0 1 ⌝ }
+{
+    if exact {
+        return 0;
+    }
+    1
+}
+
+// Whether `s` stands before `t` in the best case's table: exact states by mask, misses and hits, and open ones after them.
+pub fn best_before(s: BestState, t: BestState) -> bool
+    ensures { λ r. ⌜ r ≡ isBefore (bestOrder s t) ⌝ }
+{
+    let a = open_flag(s.exact);
+    let b = open_flag(t.exact);
+    if precedes(a, s.mask, b, t.mask) {
+        return true;
+    }
+    if precedes(b, t.mask, a, s.mask) {
+        return false;
+    }
+    let m = s.misses;
+    let h = s.hits;
+    let n = t.misses;
+    let g = t.hits;
+    precedes(m.0, h.0, n.0, g.0)
+}
+
 // The places of the two states that a fold makes one: that of fewest units in the table, and its partner's among the others.
 pub struct Pair {
     pub fewest: usize,
@@ -153,6 +199,8 @@ pub enum Refusal {
     Sets,
     Revision,
     NoCore,
+    UntrackedAccess,
+    SecondRevision,
     TraceLength,
     TraceRoom,
     ListingRoom,
@@ -179,6 +227,8 @@ impl Refusal {
             Refusal::Sets => 10,
             Refusal::Revision => 11,
             Refusal::NoCore => 16,
+            Refusal::UntrackedAccess => 17,
+            Refusal::SecondRevision => 18,
             Refusal::TraceLength => 12,
             Refusal::TraceRoom => 21,
             Refusal::ListingRoom => 22,
@@ -201,6 +251,12 @@ pub enum Outcome {
     Refused(Refusal),
 }
 
+// What the graph call for the best case answers: how many states the finished table has, or a refusal.
+pub enum BestOutcome {
+    Finished(usize),
+    Refused(Refusal),
+}
+
 // What a question about units answers.
 pub enum Amount {
     Units(Units),
@@ -210,6 +266,17 @@ pub enum Amount {
 // What a question about a miss count answers: the smallest budget, or the largest count of a spread.
 pub enum Count {
     Misses(u64),
+    Refused(Refusal),
+}
+
+// What the spread of misses of a best case's table answers, and the spread of hits: the largest count.
+pub enum MissCount {
+    Largest(Misses),
+    Refused(Refusal),
+}
+
+pub enum HitCount {
+    Largest(Hits),
     Refused(Refusal),
 }
 

@@ -17,6 +17,7 @@ use Rattle.rules.specs.declared.Count.{Count}
 use Rattle.rules.specs.declared.Count.the-variants.{Misses, Refused}
 use Rattle.rules.specs.Answers.{countSays}
 use Rattle.rules.specs.Units.{whole}
+use Rattle.rules.specs.Counts.{spread as spreadAny}
 use Rattle.rules.specs.Table.{total}
 use Rattle.rules.specs.Questions.{isTable, unitsAt, largest, above, countsBelow, spread, SpreadAnswer, spreadAnswer}
 use Rattle.rules.specs.Cycles.{cores, coreAt}
@@ -75,7 +76,7 @@ module _ (T : List State) (full : total T ≡ whole) where
         ∙ lines-from n (suc k) (omega arith))
 
     lines-spread : countLines first step 0 whole (spread T) ≡ linesBelow line (suc (largest T))
-    unfolding spread linesBelow
+    unfolding spreadAny linesBelow
     lines-spread =
         let all : suc (largest T) + 0 ≡ suc (largest T) = omega arith in
         rw all at (lines-from (suc (largest T)) 0 (omega arith))
@@ -96,7 +97,7 @@ module _ (T : List State) (full : total T ≡ whole) where
 
   -- the spread is all of WHOLE
   spread-whole : sumOver (λ n. n) (spread T) ≤ whole
-  unfolding spread
+  unfolding spreadAny
   spread-whole = omega (arith, counts-above (largest T) T)
 
 -- ---- the spread of a table, as the question answers it
@@ -107,7 +108,7 @@ module _ (T : List State) (good : isTable T ≡ true) (room : List ℕ) (long : 
   answered = is ∙ sym (spread-answered T good room (omega (arith, table-largest T good)) (largest T) refl (countsBelow (length room) T) refl)
 
   pub last-counted : (last : ℕ) → a ≡ Misses last → Counted T (last + 1) ns
-  unfolding spread
+  unfolding spreadAny
   last-counted last e =
       let most : last ≡ largest T = ap (λ (c : Count). countSays c .value) (sym e ∙ ap (λ (s : SpreadAnswer). s .answer) answered) in
       let rest : length room ≡ length room - suc (largest T) + suc (largest T) = omega (arith, table-largest T good) in
@@ -125,7 +126,7 @@ module _ (T : List State) (good : isTable T ≡ true) (room : List ℕ) (long : 
   not-refused why e = numbered why (ap (λ (c : Count). countSays c .number) (sym e ∙ ap (λ (s : SpreadAnswer). s .answer) answered))
 
 pub counted-long : (T : List State) (n : ℕ) (ns : List ℕ) → Counted T n ns → n ≡ length (take n ns)
-unfolding spread
+unfolding spreadAny
 counted-long T n ns found = found .count ∙ sym (ap length (found .spread) ∙ length-counts (suc (largest T)) T)
 
 -- and its lines

@@ -8,6 +8,7 @@ use lib.Seq.{append-snoc}
 use Rattle.rules.specs.declared.State.{State}
 use Rattle.rules.specs.Units.{whole}
 use Rattle.rules.specs.Shape.{Every}
+use Rattle.rules.specs.Counts.{spread as spreadAny}
 use Rattle.rules.specs.Questions.{isTable, unitsAt, largest, above, countsBelow, spread}
 use Rattle.rules.proofs.Lists.{every-append}
 use Rattle.rules.proofs.Questions.{units-most, above-most, table-total, table-largest}
@@ -60,7 +61,7 @@ triples-counts (suc m) T ns =
     ∙ sym (append-snoc (countsBelow m T) (unitsAt m T) (seconds ns))
 
 pub triples-spread : (T : List State) → seconds (triples (suc (largest T)) T) ≡ spread T
-unfolding spread seconds
+unfolding spreadAny seconds
 triples-spread T =
     ap seconds (sym (append-nil (triples (suc (largest T)) T)))
     ∙ triples-counts (suc (largest T)) T []

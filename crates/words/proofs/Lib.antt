@@ -1,2 +1,6 @@
+-- The first states of a table in words
+pub mod Spans
 -- Tables in lent words
 pub mod Tables
+-- The best case's tables in words
+pub mod BestTables

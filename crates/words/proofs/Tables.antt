@@ -8,7 +8,9 @@ use lib.Seq.{take-at}
 use Rattle.rules.specs.declared.State.{State}
 use Rattle.basics.proofs.Lists.{list-next, list-end}
 use Rattle.rules.specs.Table.{state, noState, stateAt}
+use Rattle.words.specs.Span.{spanOf}
 use Rattle.words.specs.Tables.{tableOf, wordsOf, stored}
+use Rattle.words.proofs.Spans.{first-states}
 
 -- the state at place i of a list of words
 abbrev pub rowOf : List ℕ → ℕ → State
@@ -127,3 +129,6 @@ module _ {A : Type 0} (f : List State → A) (ws : List ℕ) (i : ℕ) (w : A) (
 
   pub state-end : length ws / 5 ≤ i → f [] ≡ w
   state-end h = list-end f (tableOf ws) i w rest (omega (arith, length-tableOf ws))
+
+pub span-table : (ws : List ℕ) (k e : ℕ) → e ≡ spanOf (length ws) k → tableOf (take e ws) ≡ take k (tableOf ws)
+span-table ws k e ends = first-states ws k e ends tableOf (length-tableOf ws) (table-take ws k)

@@ -21,7 +21,7 @@ fn is_of_trace(kind: u8) -> bool {
 // A line of a graph or of a row. One that begins with another letter is a remark, or empty.
 fn of_numbers(kind: u8, name: &[u8], line: &[u64], report: Report) -> Report {
     match kind {
-        b'w' | b'r' | b'p' => graph_line(kind, name, line, report),
+        b'w' | b'r' | b'p' | b'f' => graph_line(kind, name, line, report),
         b'q' => table_line(kind, name, line, 3, report),
         b't' | b'a' => table_line(kind, name, line, 2, report),
         b'l' => ladder_line(name, line, report),

@@ -5,6 +5,7 @@
 // where used is 1 for a cache that is found used, and left out otherwise, and the answer is 0 or the number of a refusal. A `worked` case is written with its answers to every question, which are compared; of a
 // `refusal` only what it gives is written, and of a `path` the longest path, which stands in the place of the answer.
 use crate::asked::ask_case;
+use crate::floors::compare_floor;
 use crate::lines::count;
 use crate::lines::list;
 use crate::lines::number;
@@ -19,8 +20,10 @@ use crate::rooms::mark;
 use crate::said::Said;
 use crate::said::length_said;
 use crate::states::states_of;
+use best::analyse_best;
 use estimate::analyse;
 use longest::longest_path;
+use rules::BestOutcome;
 use rules::Cache;
 use rules::Outcome;
 use rules::Start;
@@ -50,6 +53,24 @@ fn got_of(longest: Said, outcome: Outcome) -> Got {
     }
 }
 
+// The same of the best case, which sets nothing aside.
+fn got_of_best(longest: Said, outcome: BestOutcome) -> Got {
+    match outcome {
+        BestOutcome::Finished(states) => Got {
+            longest,
+            refusal: 0,
+            states,
+            aside: 0,
+        },
+        BestOutcome::Refused(why) => Got {
+            longest,
+            refusal: why.number(),
+            states: 0,
+            aside: 0,
+        },
+    }
+}
+
 // How the cache is found: 1 says that it was used.
 fn found(used: u64) -> Start {
     if used == 1 {
@@ -58,8 +79,20 @@ fn found(used: u64) -> Start {
     Start::Cold
 }
 
-// Both calls on the lists of a line. Its first field has the cache and the limit.
+// The cache of a line.
+fn cache_of(line: &[u64]) -> Cache {
+    let start = found(number(line, 1, 4));
+    Cache {
+        sets: small(number(line, 1, 0)),
+        ways: small(number(line, 1, 1)),
+        revision: small(number(line, 1, 2)),
+        start,
+    }
+}
+
+// Both calls on the lists of a line; the second is that of the best case, where the line is a `floor`. Its first field has the cache and the limit.
 fn both(
+    kind: u8,
     line: &[u64],
     tracked: &[u32],
     runs: &[u32],
@@ -68,15 +101,26 @@ fn both(
     result: &mut [u64],
     work: &mut [u64],
 ) -> Got {
-    let start = found(number(line, 1, 4));
-    let cache = Cache {
-        sets: small(number(line, 1, 0)),
-        ways: small(number(line, 1, 1)),
-        revision: small(number(line, 1, 2)),
-        start,
-    };
+    let cache = cache_of(line);
     let limit = small(number(line, 1, 3));
     let longest = length_said(longest_path(cache, limit, tracked, runs, accesses, edges));
+    if kind == b'f' {
+        return got_of_best(
+            longest,
+            analyse_best(
+                cache.sets,
+                cache.ways,
+                cache.revision,
+                limit,
+                tracked,
+                runs,
+                accesses,
+                edges,
+                result,
+                work,
+            ),
+        );
+    }
     got_of(
         longest,
         analyse(cache, limit, tracked, runs, accesses, edges, result, work),
@@ -85,6 +129,7 @@ fn both(
 
 // The lists are read one after the other: the edges are the last.
 fn with_edges(
+    kind: u8,
     line: &[u64],
     tracked: &[u32],
     runs: &[u32],
@@ -94,10 +139,20 @@ fn with_edges(
     work: &mut [u64],
 ) -> Got {
     let n = list(line, 5, edges);
-    both(line, tracked, runs, accesses, &edges[0..n], result, work)
+    both(
+        kind,
+        line,
+        tracked,
+        runs,
+        accesses,
+        &edges[0..n],
+        result,
+        work,
+    )
 }
 
 fn with_accesses(
+    kind: u8,
     line: &[u64],
     tracked: &[u32],
     runs: &[u32],
@@ -107,10 +162,20 @@ fn with_accesses(
     work: &mut [u64],
 ) -> Got {
     let n = list(line, 4, accesses);
-    with_edges(line, tracked, runs, &accesses[0..n], edges, result, work)
+    with_edges(
+        kind,
+        line,
+        tracked,
+        runs,
+        &accesses[0..n],
+        edges,
+        result,
+        work,
+    )
 }
 
 fn with_runs(
+    kind: u8,
     line: &[u64],
     tracked: &[u32],
     runs: &mut [u32],
@@ -120,10 +185,20 @@ fn with_runs(
     work: &mut [u64],
 ) -> Got {
     let n = list(line, 3, runs);
-    with_accesses(line, tracked, &runs[0..n], accesses, edges, result, work)
+    with_accesses(
+        kind,
+        line,
+        tracked,
+        &runs[0..n],
+        accesses,
+        edges,
+        result,
+        work,
+    )
 }
 
 fn with_tracked(
+    kind: u8,
     line: &[u64],
     tracked: &mut [u32],
     runs: &mut [u32],
@@ -133,11 +208,20 @@ fn with_tracked(
     work: &mut [u64],
 ) -> Got {
     let n = list(line, 2, tracked);
-    with_runs(line, &tracked[0..n], runs, accesses, edges, result, work)
+    with_runs(
+        kind,
+        line,
+        &tracked[0..n],
+        runs,
+        accesses,
+        edges,
+        result,
+        work,
+    )
 }
 
 // Both calls on the numbers of a line, in rooms whose words are known.
-fn called(line: &[u64], result: &mut [u64], work: &mut [u64]) -> Got {
+fn called(kind: u8, line: &[u64], result: &mut [u64], work: &mut [u64]) -> Got {
     let mut tracked: [u32; 32] = [0; 32];
     let mut runs: [u32; 128] = [0; 128];
     let mut accesses: [u32; 4100] = [0; 4100];
@@ -145,6 +229,7 @@ fn called(line: &[u64], result: &mut [u64], work: &mut [u64]) -> Got {
     mark(result);
     mark(work);
     with_tracked(
+        kind,
         line,
         &mut tracked,
         &mut runs,
@@ -248,7 +333,10 @@ fn graph_in(
     work: &mut [u64],
     report: Report,
 ) -> Report {
-    let got = called(line, result, work);
+    let got = called(kind, line, result, work);
+    if kind == b'f' {
+        return compare_floor(name, got.refusal, got.states, line, result, work, report);
+    }
     let mut words: [u64; 320] = [0; 320];
     let end = states_of(line, &mut words);
     if 320 < end {

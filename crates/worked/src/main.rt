@@ -2,7 +2,8 @@
 // question, and both sides of each refusal of section 5 but the text's. After each call the rooms are compared word by word. Cases on
 // caches with sets (document 02, request 1/13), of the same untracked block twice running (3/13), of the second revision (6/13) and of a used cache (12/13) are worked by hand. The longest path
 // and the questions in cycles (9/13) are asked of the same graphs and tables, and of some more. Traces are written, read and judged
-// by hand (7/13), and the quick question is asked of rows of any numbers (5/13). Listings are expanded (8/13). Lists of graphs are judged in one nightly build (13/13). The cases are read from standard input: the file `stdin` has them, a line each.
+// by hand (7/13), and the quick question is asked of rows of any numbers (5/13). Listings are expanded (8/13). Lists of graphs are judged in one nightly build (13/13).
+// Cases 1 to 5 and 9 are read as best case too (10/13), with both spreads. The cases are read from standard input: the file `stdin` has them, a line each.
 use crate::cases::all_cases;
 use crate::numbers::say;
 use crate::report::Report;
@@ -12,6 +13,7 @@ mod cases;
 mod cores;
 mod cycles;
 mod expected;
+mod floors;
 mod graph;
 mod lines;
 mod listings;

@@ -29,7 +29,7 @@ use Rattle.rules.specs.declared.State.{State}
 use Rattle.rules.specs.Questions.{spreadAnswer}
 use Rattle.rules.proofs.Count as count
 use Rattle.rules.proofs.Count.Laws as count-laws
-use Rattle.rows.proofs.LentRow.{StateT, RowT, lends}
+use Rattle.rows.proofs.LentRow.{document-01, StateT, RowT, lends}
 use Rattle.rows.proofs.Walk.{Claim, claims, Keeps, Alive, asks, leaves, within, known, proves}
 use Rattle.rows.proofs.spread as spread
 use Rattle.rows.proofs.spread.Symbol.{name as #spread, routine as spread-routine}
@@ -52,7 +52,7 @@ abbrev Exports : Claim exported.ended
 Exports κs a r e = record { answer = record { number = r; value = now (e .1 .1 .0) }; room = now (e .1 .0) } ≡ spreadGiven (spreadAnswer (now (a .0)) (now (a .1 .0))) (now (a .1 .1 .0))
 
 abbrev stayed : Stays (exported.ended .signature .params) (exported.ended .kept)
-stayed = (stay-none-slice (0 ∷ []) tt (plain (λ _. StateT)) yes, (gave-slice (1 ∷ []) tt (plain (λ _. u64)), (gave-ref (2 ∷ []) tt (plain (λ _. u64)), tt)))
+stayed = (stay-none-slice (0 ∷ []) tt (plain (λ _. StateT document-01)) yes, (gave-slice (1 ∷ []) tt (plain (λ _. u64)), (gave-ref (2 ∷ []) tt (plain (λ _. u64)), tt)))
 
 abbrev RoomT : Lft → RattleType
 RoomT κ = MutSlice (named 1) κ u64
@@ -69,11 +69,11 @@ module _ {M : Type 1} (𝓤 : URA M) (H : Heap 𝓤) (A : Atoms 𝓤) (W : Given
   y = ((κ, (κ′, tt)), (q, (q′, tt)), tt, (s, (c, tt)), (slice-vals s, (slice-vals c, tt)))
 
   walk : (𝓣 : Tables 𝓤 H) → Keeps 𝓤 H A spread.ended Spread (𝓣 .C #spread) → Keeps 𝓤 H A (Give count.the-type countGiven) (Gave count.the-type countGiven) (𝓣 .C #give-count)
-      → Room StateT (length (s .now)) → Room u64 (length (c .now))
+      → Room (StateT document-01) (length (s .now)) → Room u64 (length (c .now))
       → ent 𝓤 (onEntry 𝓤 H A exported.signature (x .0) (x .1) (x .3) (x .4))
       (WpFn 𝓤 H (𝓣 .C) (𝓣 .Λ) code.function (flat (typesAt (exported.signature .params) (x .0)) (x .4)) (walkOf 𝓤 H A exported.ended stayed (claims 𝓤 exported.ended Exports) .post (x, tt)))
   walk 𝓣 known-spread known-give fits-row fits-room =
-      qed W ((‵ (flft κ q) ⊛ (‵ (flft κ′ q′) ⊛ (‵ (flft κ″ q″) ⊛ ‵ ftrue))) ∷ ‵ (owns (RowT κ ∷ RoomT κ′ ∷ LargestT κ″ ∷ []) (x .3) (x .4)) ∷ []) ∵ enter ! (𝓣 .C) (𝓣 .Λ) code.function _ _ $
+      qed W ((‵ (flft κ q) ⊛ (‵ (flft κ′ q′) ⊛ (‵ (flft κ″ q″) ⊛ ‵ ftrue))) ∷ ‵ (owns (RowT document-01 κ ∷ RoomT κ′ ∷ LargestT κ″ ∷ []) (x .3) (x .4)) ∷ []) ∵ enter ! (𝓣 .C) (𝓣 .Λ) code.function _ _ $
       alloc1 ! (λ l₀. alloc1 ! (λ l₁. alloc1 ! (λ l₂. alloc1 ! (λ l₃. alloc1 ! (λ l₄. alloc1 ! (λ l₅. alloc1 ! (λ l₆. alloc1 ! (λ l₇. alloc0 ! $ params1 ! $
       pass1 ! (init ! 12 refl (tt, (tt, (record { fits = fits-row .0 }, tt)))) $ pass1 ! (init ! 10 refl (tt, (tt, (record { fits = fits-room .0 }, tt)))) $ pass1 ! (init ! 8 refl (tt, tt)) $ pass0 ! $
       move ! (16 ∷ []) $ split ! $ move ! (1 ∷ []) $ split ! $ move ! (1 ∷ []) $ split ! $
@@ -82,7 +82,7 @@ module _ {M : Type 1} (𝓤 : URA M) (H : Heap 𝓤) (A : Atoms 𝓤) (W : Given
       assigns ! (agg ! (and-then ! (load ! (from ! (stop !)) (look ! 8 refl)) (and-then ! (load ! (from ! (fld ! refl (stop !))) (look-in ! 14 (sub ! 1 refl (whole !)))) (no-more !))))
       (from ! (stop !)) (init ! 6 refl (tt, (tt, (record { fits = fits-room .0 }, tt)))) $
       move ! (20 ∷ []) $
-      use1 W (‵ (RowT κ .own s (slice-vals s)) ⊛ ‵ (owns (RowT κ ∷ RoomT κ′ ∷ LargestT κ″ ∷ []) (x .3) (x .4))) (lends 𝓤 H A W κ (RoomT κ′ ∷ LargestT κ″ ∷ []) s (c, (m, tt)) (slice-vals c, (ptr-vals m, tt))) $ split ! $
+      use1 W (‵ (RowT document-01 κ .own s (slice-vals s)) ⊛ ‵ (owns (RowT document-01 κ ∷ RoomT κ′ ∷ LargestT κ″ ∷ []) (x .3) (x .4))) (lends document-01 𝓤 H A W κ (RoomT κ′ ∷ LargestT κ″ ∷ []) s (c, (m, tt)) (slice-vals c, (ptr-vals m, tt))) $ split ! $
       -- the room goes on to `spread`, with its token and the row's
       move ! (1 ∷ []) $ fsplit ! $ move ! (1 ∷ []) $ fsplit ! $ move ! (1 ∷ []) $ fsplit ! $ move ! (2 ∷ 1 ∷ []) $ fjoin ! $ move ! (3 ∷ 0 ∷ []) $ fjoin ! $ move ! (5 ∷ 4 ∷ []) $ join ! $ move ! (5 ∷ 0 ∷ []) $ join ! $ use1 W (Alive 𝓤 H A spread.ended y) (id⊢ 𝓤 _) $
       asks ! 𝓣 spread.ended Spread known-spread y (and-then ! (load ! (from ! (stop !)) (look ! 16 refl)) (and-then ! (load ! (from ! (stop !)) (look ! 6 refl)) (no-more !))) (λ v r ws answered is-r.
@@ -108,8 +108,8 @@ estimate-row-spread-spec 𝓤 H 𝓜 𝓖 𝓡 =
     let A : Atoms 𝓤 = 𝓖 .A in
     let W : Given 𝓤 H A = givenOf 𝓤 H 𝓜 𝓖 in
     proves 𝓤 H 𝓜 𝓖 𝓡 code.env exported.ended Exports #estimate-row-spread code.function stayed (λ κs. (slice-vals, (slice-vals, (ptr-vals, tt)))) (code.unfolded 𝓤 H 𝓜 𝓡)
-    (goes-none-slice 𝓤 H A W 3 (0 ∷ []) tt (plain (λ _. StateT)) yes, (goes-gave-slice 𝓤 H A W 3 1 tt (plain (λ _. u64)), (goes-gave-ref 𝓤 H A W 3 2 tt (plain (λ _. u64)), tt)))
-    (λ κs. (shr-slice-tells (named 0) (κs .0) StateT, (mut-slice-tells (named 1) (κs .1 .0) u64, (mut-tells (named 2) (κs .1 .1 .0) u64, tt))))
+    (goes-none-slice 𝓤 H A W 3 (0 ∷ []) tt (plain (λ _. StateT document-01)) yes, (goes-gave-slice 𝓤 H A W 3 1 tt (plain (λ _. u64)), (goes-gave-ref 𝓤 H A W 3 2 tt (plain (λ _. u64)), tt)))
+    (λ κs. (shr-slice-tells (named 0) (κs .0) (StateT document-01), (mut-slice-tells (named 1) (κs .1 .0) u64, (mut-tells (named 2) (κs .1 .1 .0) u64, tt))))
     (λ κs qs bounds a are. walk 𝓤 H A W (κs .0) (κs .1 .0) (κs .1 .1 .0) (qs .0) (qs .1 .0) (qs .1 .1 .0) (a .0) (a .1 .0) (a .1 .1 .0) (within 𝓤 H 𝓜 𝓡 code.env)
     (known 𝓤 H 𝓜 𝓖 𝓡 code.env spread.ended Spread #spread spread-routine code.calls-rows·spread (spread-thm.met 𝓤 H 𝓜 𝓖 𝓡))
     (known 𝓤 H 𝓜 𝓖 𝓡 code.env (Give count.the-type countGiven) (Gave count.the-type countGiven) #give-count give-count-routine code.calls-estimate-c·give-count (give-count-thm.met 𝓤 H 𝓜 𝓖 𝓡))

@@ -5,7 +5,8 @@ use borrow.Author.Needs.{needs}
 use denote.Ref.{now}
 use Rattle.rules.specs.declared.State.{State}
 use Rattle.rules.specs.Questions.{budgetAnswer}
-use Rattle.questions.proofs.Span.{span-within, span-table}
+use Rattle.words.proofs.Spans.{span-within}
+use Rattle.words.proofs.Tables.{span-table}
 use Rattle.questions.proofs.smallest_budget_in.Statement.{statement}
 use Rattle.questions.proofs.smallest_budget_in.Tie as tie
 

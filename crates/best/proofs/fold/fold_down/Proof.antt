@@ -1,0 +1,64 @@
+-- `fold_down` folds while there are too many states. The invariant of its loop: folding what is there down to the limit comes to the same as
+-- folding the table that it began with. A fold leaves fewer states, so that the loop ends.
+use mathlib.Core.Path.{_≡_, refl}
+use mathlib.Core.Bool.{true}
+use Prim.Native.Nat.{_≤_}
+use native.Mathlib.Omega.{arith}
+use lib.ListN.{length, take}
+use borrow.Author.Needs.{needs}
+use Rattle.best.specs.Tables.{rising, workOf}
+use Rattle.best.specs.Tables.{folded}
+use Rattle.words.specs.BestTables.{tableOf}
+use Rattle.words.proofs.BestTables.{fits-table}
+use Rattle.best.proofs.Folding.{folding-less, folding-rises, folding-turn, folding-end}
+use Rattle.best.proofs.fold.fold_down.Statement.{statement}
+use Rattle.best.proofs.fold.fold_down.Tie as tie
+
+abbrev Inv-loop : tie.InvT-loop
+Inv-loop words₀ n limit left₀ words left =
+    (left ≤ n)
+    × (length words ≡ length words₀)
+    × (rising (take left (tableOf words)) ≡ true)
+    × (folded limit (workOf (take n (tableOf words₀))) ≡ folded limit (workOf (take left (tableOf words))))
+
+abbrev μ-loop : tie.MeasureT-loop
+μ-loop words₀ n limit left₀ words left = left
+
+loop-holds : tie.Need-loop-holds Inv-loop μ-loop
+loop-holds c = (search needs, refl, c .before .pre .2, refl)
+
+fold-once-requires : tie.Need-fold-once-requires Inv-loop μ-loop
+fold-once-requires c κs = (search needs, search needs, c .before .before .loop .inv .2)
+
+loop-less : tie.Need-loop-less Inv-loop μ-loop
+loop-less c =
+    folding-less _ _ _ _ _ (fits-table _ _ (omega arith)) (omega arith) (c .before .before .before .before .loop-test .taken) (c .before .before .fold-once .ensures)
+
+loop-again : tie.Need-loop-again Inv-loop μ-loop
+loop-again c =
+    let g = c .before .before .before .before in
+    let l = g .before .loop in
+    let h = c .before .before .fold-once .ensures in
+    let less = loop-less c in (
+      omega (arith, less),
+      search needs,
+      folding-rises _ _ _ _ _ (fits-table _ _ (omega arith)) (omega arith) (g .loop-test .taken) h (l .inv .2),
+      folding-turn _ _ _ _ _ (fits-table _ _ (omega arith)) (omega arith) (g .loop-test .taken) h _ (l .inv .3),
+    )
+
+returns : tie.Need-returns Inv-loop μ-loop
+returns c = let l = c .before .loop in
+    folding-end _ _ _ (fits-table _ _ (omega arith)) (c .loop-test .left) _ (l .inv .3)
+
+pub fold-down-spec : {M : Type 1} → statement M
+fold-down-spec =
+    tie.close
+    (tie.spec
+    Inv-loop
+    μ-loop
+    loop-holds
+    fold-once-requires
+    loop-less
+    loop-again
+    (λ c. search needs)
+    returns)

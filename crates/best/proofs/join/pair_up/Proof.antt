@@ -1,0 +1,76 @@
+-- `pair_up` takes the walk's pairs one by one into the scratch. The invariant of its loop: the slots are as they were, and what the
+-- scratch holds is, with the pairs that are still to come, the whole join. The measure is how many states are left.
+use Rattle.best.proofs.Pairing.{statesLeft, statesAt, Underway, underway-none, underway-left, underway-right, room-for-one, left-stays, right-stays, underway-falls, underway-more}
+use borrow.Author.Needs.{needs}
+use Rattle.best.proofs.join.pair_up.Statement.{statement}
+use Rattle.best.proofs.join.pair_up.Tie as tie
+
+abbrev Inv-loop : tie.InvT-loop
+Inv-loop work₀ left m right k n₀ a₀ b₀ work n a b = Underway left m right k work₀ work n a b
+
+abbrev μ-loop : tie.MeasureT-loop
+μ-loop work₀ left m right k n₀ a₀ b₀ work n a b = statesLeft a b (statesAt left m work₀) (statesAt right k work₀)
+
+loop-holds : tie.Need-loop-holds Inv-loop μ-loop
+loop-holds c = underway-none _ _ _ _ _ _ _ (c .before .before .front-at .ensures) (c .front-at2 .ensures)
+
+returns : tie.Need-returns Inv-loop μ-loop
+returns c = let l = c .before .before in underway-left (l .loop .inv) (l .before .before .before .before .before .before .pre) (c .if1 .taken)
+
+returns-2 : tie.Need-returns-2 Inv-loop μ-loop
+returns-2 c = let l = c .before .before .before .before in underway-right (l .loop .inv) (l .before .before .before .before .before .before .pre) (c .if2 .taken)
+
+add-to-scratch-requires : tie.Need-add-to-scratch-requires Inv-loop μ-loop
+add-to-scratch-requires c κs = let j = c .before .before .before .before .before in
+    let l = j .before .before .before .before in
+    room-for-one (l .loop .inv) (l .before .before .before .before .before .before .pre) (j .before .before .if1 .left) (j .if2 .left)
+
+after-requires : tie.Need-after-requires Inv-loop μ-loop
+after-requires c κs = let d = c .before .before .before in
+    let j = d .before .before .before .before .before .before in
+    let l = j .before .before .before .before in
+    left-stays (l .loop .inv) (l .before .before .before .before .before .before .pre) (j .before .before .if1 .left) (j .if2 .left)
+    _ _ _ (d .add-to-scratch .kept .0) (d .add-to-scratch .ensures) _ (d .before .before .before .smaller .ensures)
+
+after-requires-2 : tie.Need-after-requires-2 Inv-loop μ-loop
+after-requires-2 c κs = let d = c .before .before .before .before .before in
+    let j = d .before .before .before .before .before .before in
+    let l = j .before .before .before .before in
+    right-stays (l .loop .inv) (l .before .before .before .before .before .before .pre) (j .before .before .if1 .left) (j .if2 .left)
+    _ _ _ (d .add-to-scratch .kept .0) (d .add-to-scratch .ensures) _ (d .before .before .before .smaller .ensures)
+
+loop-less : tie.Need-loop-less Inv-loop μ-loop
+loop-less c = let d = c .before .before .before .before .before .before in
+    let j = d .before .before .before .before .before .before in
+    let l = j .before .before .before .before in
+    underway-falls (l .loop .inv) (l .before .before .before .before .before .before .pre) (j .before .before .if1 .left) (j .if2 .left)
+    _ _ _ (d .add-to-scratch .kept .0) (d .add-to-scratch .ensures) _ (d .before .before .before .smaller .ensures) _ _ (c .before .before .after .ensures) (c .after2 .ensures)
+
+loop-again : tie.Need-loop-again Inv-loop μ-loop
+loop-again c = let d = c .before .before .before .before .before .before in
+    let j = d .before .before .before .before .before .before in
+    let l = j .before .before .before .before in
+    underway-more (l .loop .inv) (l .before .before .before .before .before .before .pre) (j .before .before .if1 .left) (j .if2 .left)
+    _ _ _ (d .add-to-scratch .kept .0) (d .add-to-scratch .ensures) _ (d .before .before .before .smaller .ensures) _ _ (c .before .before .after .ensures) (c .after2 .ensures)
+    (d .before .pair .ensures)
+
+pub pair-up-spec : {M : Type 1} → statement M
+pair-up-spec =
+    tie.close
+    (tie.spec
+    Inv-loop
+    μ-loop
+    (λ c κs. search needs)
+    (λ c κs. search needs)
+    loop-holds
+    (λ c. search needs)
+    returns
+    (λ c. search needs)
+    returns-2
+    (λ c κs. search needs)
+    (λ c κs. search needs)
+    add-to-scratch-requires
+    after-requires
+    after-requires-2
+    loop-less
+    loop-again)

@@ -1,0 +1,11 @@
+-- `is_after` is what the order says, turned round.
+use borrow.Author.Needs.{needs}
+use Rattle.best.proofs.Insertion.{after-turned}
+use Rattle.best.proofs.placing.is_after.Statement.{statement}
+use Rattle.best.proofs.placing.is_after.Tie as tie
+
+returns : tie.Need-returns
+returns c = after-turned _ _ _ (c .best-before .ensures)
+
+pub is-after-spec : {M : Type 1} → statement M
+is-after-spec = tie.close (tie.spec (λ c κs. search needs) returns)

@@ -1,0 +1,2 @@
+-- The count that a spread is of
+pub mod Counted

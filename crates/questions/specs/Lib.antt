@@ -1,2 +1,0 @@
--- The first states of a table in words
-pub mod Span
