@@ -1,31 +1,37 @@
 -- Folding a table: how a search finds the best state place by place, first the state of fewest units and then its partner among the
--- others; how the states move down where one is taken out; that taking out the two and putting in what they become is a fold; and that
--- one fold after the other comes to the state limit. Tables are the first n states of a list.
+-- others (where that search may stop early is Partnering's); how the
+-- states move down where one is taken out; that the two replaced by what they become are a fold; and that one fold after the other comes to the state
+-- limit. Tables are the first n states of a list.
 use mathlib.Core.Path.{_≡_, refl, sym, ap, _∙_}
-use mathlib.Core.Bool.{Bool, true, false, cond, _&&_, _||_}
+use mathlib.Core.Bool.{Bool, true, false, cond, _&&_, _||_, not, true≢false}
+use mathlib.Core.Logic.{_≢_}
 use mathlib.Core.List.{List, [], _∷_}
 use Prim.Native.Nat.{ℕ, zero, suc, _+_, _-_, _≤_, _<_}
 use native.Mathlib.Nat.{le-of-suc-le-suc, le-refl, le-antisymm}
 use native.Mathlib.Numerals.{add-one}
 use native.Mathlib.Omega.{arith}
 use lib.Dec.{eqb, ltb, leb}
-use lib.ListN.{length, set, take, drop}
-use lib.Seq.{take-nil, take-suc, drop-cons, getD-take, getD-drop, length-take-le, take-suc-set, drop-set-lt, drop-drop, drop-length}
-use borrow.Author.Tests.{lt-ltb, le-ltb, eq-eqb, ne-eqb, ltb-true, ltb-false, le-leb, lt-leb, leb-false}
+use lib.ListN.{length, set, take, drop, length-set}
+use lib.Seq.{take-nil, take-suc, drop-cons, getD-take, getD-drop, length-take-le, take-suc-set, take-set-lt, drop-set-lt, drop-drop, drop-length}
+use borrow.Author.Tests.{lt-ltb, le-ltb, eq-eqb, ne-eqb, le-leb, lt-leb, leb-false, not-true}
+use Rattle.basics.proofs.Bools.{and-left, and-right}
 use Rattle.rules.specs.declared.State.{State}
 use Rattle.rules.specs.declared.Pair.{Pair}
 use Rattle.rules.specs.declared.Units.{Units}
 use Rattle.rules.specs.Units.{more, addOf}
-use Rattle.rules.specs.Ordered.{remove, best, bestFrom}
+use Rattle.rules.specs.Ordered.{Order, before, same, after, remove, best, bestFrom}
 use Rattle.rules.specs.AnyTable.{choice as choiceAny, fold as foldAny, foldAt as foldAtAny, folded as foldedAny}
 use Rattle.rules.specs.Table.{unitsOf, order, noState, stateAt, rising, add, Work}
-use Rattle.rules.specs.Fold.{fewer, sharing, apart, closer, choice, meet, changed, foldAt, fold, foldsOf, folded}
+use Rattle.rules.specs.Fold.{fewer, sharing, apart, closer, choice, meet, changed, fold, foldsOf, folded}
 use Rattle.rules.proofs.Lists.{length-remove, best-lt}
 use Rattle.rules.proofs.Ordered.{in-order-remove}
 use Rattle.rules.proofs.Table.{rising-is, rising-so}
-use Rattle.rules.proofs.Fold.{firstOf, secondOf, othersOf, meetOf, rising-fold, fold-shorter}
+use Rattle.rules.proofs.Partners.{past, past-other, among-past, others-behind, others-at}
+use Rattle.rules.proofs.Replacing.{removed-both, among-within, kept}
+use Rattle.rules.proofs.Fold.{firstOf, secondOf, meetOf, rising-fold, fold-shorter}
 use Rattle.estimate.specs.Placing.{isSame, Added}
 use Rattle.estimate.specs.Rooms.{Stands}
+use Rattle.estimate.specs.Partners.{among, replaced, Replaced}
 use Rattle.estimate.proofs.Insertion.{same-tests}
 
 -- ---- the search for the best, over any list of states
@@ -64,28 +70,6 @@ module _ (s m : State) (r : Bool) (same : r ≡ isSame (order s m)) where
   changed-all h = rw (sym (same-tests s m) ∙ sym same ∙ h)
 
 -- ---- the others than the one at place i
-
--- the places before it stay, those behind it come one place nearer
-others-before : (i j : ℕ) (T : List State) → j < i → stateAt (remove i T) j ≡ stateAt T j
-unfolding remove
-others-before i j [] l = refl
-others-before zero j (t ∷ T) l = absurd (omega arith)
-others-before (suc i) zero (t ∷ T) l = refl
-others-before (suc i) (suc j) (t ∷ T) l = others-before i j T (le-of-suc-le-suc l)
-
-others-behind : (i j : ℕ) (T : List State) → i ≤ j → stateAt (remove i T) j ≡ stateAt T (suc j)
-unfolding remove
-others-behind i j [] l = refl
-others-behind zero j (t ∷ T) l = refl
-others-behind (suc i) zero (t ∷ T) l = absurd (omega arith)
-others-behind (suc i) (suc j) (t ∷ T) l = others-behind i j T (le-of-suc-le-suc l)
-
-others-at : (i j : ℕ) (T : List State) → stateAt (remove i T) j ≡ stateAt T (cond (ltb j i) j (suc j))
-others-at i j T = go (ltb j i) refl
-  where
-    go : (b : Bool) → ltb j i ≡ b → stateAt (remove i T) j ≡ stateAt T (cond b j (suc j))
-    go true e = others-before i j T (ltb-true j i e)
-    go false e = others-behind i j T (ltb-false j i e)
 
 -- with another behind it, that is a place of the table
 pub other-within : (i j p n : ℕ) → p ≡ cond (ltb j i) j (suc j) → suc j < n → p < n
@@ -140,7 +124,7 @@ module _ (i : ℕ) (t : List State) where
       behind u = let e : suc j + 0 ≡ j + 1 = omega arith in sym (getD-drop (suc j) u 0 noState ∙ rw e)
 
       is : x ≡ stateAt (remove i t) j
-      is = p ∙ behind w ∙ ap (λ (u : List State). stateAt u 0) (h .back) ∙ sym (behind t) ∙ rw (add-one j) (sym (others-behind i j t a))
+      is = p ∙ behind w ∙ ap (λ (u : List State). stateAt u 0) (h .back) ∙ sym (behind t) ∙ rw (add-one j) (sym (others-behind noState i j t a))
 
       long : j < length (remove i t)
       long = omega (arith, length-remove i t (omega arith))
@@ -210,7 +194,7 @@ module _ (T : List State) (n : ℕ) (room : n ≤ length T) (i : ℕ) (among : i
   -- t is the state at place j of the others, which stands at place p of the table
   module _ (j p : ℕ) (t : State) (l : suc j < n) (e : p ≡ cond (ltb j i) j (suc j)) (d : t ≡ stateAt T p) where
     other : t ≡ stateAt R j
-    other = d ∙ sym (others-at i j (take n T) ∙ rw (← e) (getD-take n T p noState (other-within i j p n e l)))
+    other = d ∙ sym (others-at noState i j (take n T) ∙ rw (← e) (getD-take n T p noState (other-within i j p n e l)))
 
     -- b says whether it is better than the best so far
     module _ (k most near : ℕ) (b : Bool) (q : b ≡ (ltb most (sharing s t) || (eqb most (sharing s t) && ltb (apart s t) near)))
@@ -232,12 +216,13 @@ module _ (T : List State) (n : ℕ) (room : n ≤ length T) (i : ℕ) (among : i
         away = ap (apart s) (other 0 p t l e d);
       }
 
-  -- the two searches have found document 01's choice
-  pub choice-found : (k most near j : ℕ) → s ≡ stateAt T i → best fewer (take n T) ≡ i → j + 1 ≡ n → Nearest s R k most near j
-      → record { fewest = i; partner = k } ≡ choice (take n T)
+  pub partner-end : (k most near j : ℕ) → j + 1 ≡ n → Nearest s R k most near j → k ≡ best (closer s) R
+  partner-end k most near j e h = sym (search-end (closer s) R k j (omega (arith, long)) (h .search))
+
+  -- both are document 01's choice
+  pub choice-found : (k : ℕ) → s ≡ stateAt T i → best fewer (take n T) ≡ i → k ≡ best (closer s) R → record { fewest = i; partner = k } ≡ choice (take n T)
   unfolding choiceAny
-  choice-found k most near j d b e h =
-      rw (b, getD-take n T i noState among, ← d, search-end (closer s) R k j (omega (arith, long)) (h .search))
+  choice-found k d b e = rw (b, getD-take n T i noState among, ← d, e)
 
 -- ---- the two places that are chosen
 
@@ -255,53 +240,118 @@ module _ (X : List State) (n : ℕ) (long : length X ≡ n) (some : 2 ≤ n) (p 
       let found : p .partner ≡ best (closer (stateAt X (p .fewest))) (remove (p .fewest) X) = rw chosen refl in
       rw found (omega (arith, one-left, best-lt (closer (stateAt X (p .fewest))) (remove (p .fewest) X) (omega (arith, one-left))))
 
--- ---- one fold of the first n states: one state taken out, then the other, and the two together put in
+-- ---- what replaces two states of the first n: i and p are their places, and m comes
 
-module _ (T : List State) (n : ℕ) (room : n ≤ length T) (some : 2 ≤ n) (p : Pair) (chosen : p ≡ choice (take n T)) where
-  -- T₁ is the list after the first was taken out, T₂ after the second
-  module _ (T₁ T₂ : List State) (first : take (n - 1) T₁ ≡ remove (p .fewest) (take n T))
-      (second : take (n - 1 - 1) T₂ ≡ remove (p .partner) (take (n - 1) T₁)) where
-    left : take (n - 2) T₂ ≡ othersOf p (take n T)
-    left = let e : n - 2 ≡ n - 1 - 1 = omega arith in rw e (second ∙ ap (remove (p .partner)) first)
+same-place : (o : Order) → isSame o ≡ true → o ≡ same
+same-place before e = absurd (true≢false (sym e))
+same-place same e = refl
+same-place after e = absurd (true≢false (sym e))
 
-    pub rising-left : rising (take n T) ≡ true → rising (take (n - 2) T₂) ≡ true
+-- r says whether m has units and stands where t stands
+stays-so : (m t : State) (r : Bool) → r ≡ (not (eqb (unitsOf m) 0) && isSame (order m t)) → r ≡ true → (unitsOf m ≢ 0) × (order m t ≡ same)
+stays-so m t r said h =
+    let both = sym said ∙ h in (
+      λ e. true≢false (sym (eq-eqb (unitsOf m) 0 e) ∙ not-true _ (and-left (not (eqb (unitsOf m) 0)) _ both)),
+      same-place (order m t) (and-right (not (eqb (unitsOf m) 0)) _ both),
+    )
+
+module _ (T : List State) (n : ℕ) (room : n ≤ length T) (i p : ℕ) (l : i < n) (k : p < n) (other : p ≢ i) (m : State) where
+  abbrev X : List State
+  X = take n T
+
+  full : length X ≡ n
+  full = length-take-le n T room
+
+  listed : (j : ℕ) → j < n → stateAt T j ≡ stateAt X j
+  listed j q = sym (getD-take n T j noState q)
+
+  -- one of the two is written over: S are the others than the other one, and j is its place among them
+  written : (S : List State) (j : ℕ) → suc (length S) ≡ n → replaced i p m X ≡ set S j m → (T′ : List State) → take (n - 1) T′ ≡ set S j m
+      → Replaced i p m n (n - 1) T T′
+  written S j e d T′ w = record { count = rw d (omega (arith, e, length-set S j m)); table = w ∙ sym d }
+
+  pub first-stays : rising X ≡ true → (r : Bool) → r ≡ (not (eqb (unitsOf m) 0) && isSame (order m (stateAt T i))) → r ≡ true
+      → (T′ : List State) → take (n - 1) T′ ≡ set (remove p X) (among p i) m → Replaced i p m n (n - 1) T T′
+  unfolding replaced
+  first-stays h r said e T′ w =
+      let (some, alike) = stays-so m (stateAt T i) r said e in
+      written (remove p X) (among p i) (length-remove p X (omega (arith, full)) ∙ full)
+      (kept X i p m (rising-so X h) (omega (arith, full)) (omega (arith, full)) other (rw (← listed i l) alike) some) T′ w
+
+  pub second-stays : rising X ≡ true → (r : Bool) → r ≡ (not (eqb (unitsOf m) 0) && isSame (order m (stateAt T p))) → r ≡ true
+      → (T′ : List State) → take (n - 1) T′ ≡ set (remove i X) (among i p) m → Replaced i p m n (n - 1) T T′
+  unfolding replaced
+  second-stays h r said e T′ w =
+      let (some, alike) = stays-so m (stateAt T p) r said e in
+      written (remove i X) (among i p) (length-remove i X (omega (arith, full)) ∙ full)
+      (ap (add (m ∷ [])) (removed-both i p X other)
+      ∙ kept X p i m (rising-so X h) (omega (arith, full)) (omega (arith, full)) (λ d. other (sym d)) (rw (← listed p k) alike) some) T′ w
+
+  -- one is taken out, which leaves T₁, and m written at place j
+  pub written-over : (T₁ T₂ : List State) (j : ℕ) → take (n - 1) T₁ ≡ remove p X → T₂ ≡ set T₁ j m → j ≡ among p i
+      → take (n - 1) T₂ ≡ set (remove p X) (among p i) m
+  written-over T₁ T₂ j first then place =
+      let before-last = among-within p i n k l (λ d. other (sym d)) in
+      ap (take (n - 1)) then ∙ take-set-lt (n - 1) T₁ j m (omega (arith, before-last, place)) ∙ rw (first, place)
+
+  -- both are taken out: T₁ is the list after the first, T₂ after the second
+  module _ (T₁ T₂ : List State) (first : take (n - 1) T₁ ≡ remove i X) (second : take (n - 1 - 1) T₂ ≡ remove (among i p) (take (n - 1) T₁)) where
+    left : take (n - 2) T₂ ≡ remove (among i p) (remove i X)
+    left = let e : n - 2 ≡ n - 1 - 1 = omega arith in rw e (second ∙ ap (remove (among i p)) first)
+
+    pub rising-left : rising X ≡ true → rising (take (n - 2) T₂) ≡ true
     rising-left h =
         rw left
-        (rising-is (othersOf p (take n T))
-        (in-order-remove order (p .partner) (remove (p .fewest) (take n T)) (in-order-remove order (p .fewest) (take n T) (rising-so (take n T) h))))
+        (rising-is (remove (among i p) (remove i X))
+        (in-order-remove order (among i p) (remove i X) (in-order-remove order i X (rising-so X h))))
 
-    -- s and t are the two, and m what they become
-    module _ (s t m : State) (x : Units) (is-first : s ≡ stateAt T (p .fewest)) (is-second : t ≡ stateAt T₁ (p .partner))
-        (sum : x ≡ addOf (s .units) (t .units)) (both : m ≡ meet s t (x .0)) where
-      first-there : s ≡ firstOf p (take n T)
-      first-there = is-first ∙ sym (getD-take n T (p .fewest) noState within)
-        where
-          within : p .fewest < n
-          within = fewest-within (take n T) n (length-take-le n T room) some p chosen
+    pub replaced-anew : (r : ℕ) (T′ : List State) → Added (m ∷ []) (n - 2) r T₂ T′ → Replaced i p m n r T T′
+    unfolding replaced
+    replaced-anew r T′ h = record { count = h .count ∙ rw left; table = h .table ∙ rw left }
 
-      second-there : t ≡ secondOf p (take n T)
-      second-there =
-          is-second
-          ∙ sym (getD-take (n - 1) T₁ (p .partner) noState within)
-          ∙ ap (λ (X : List State). stateAt X (p .partner)) first
-        where
-          within : p .partner < n - 1
-          within = partner-within (take n T) n (length-take-le n T room) some p chosen
+-- ---- one fold of the first n states: the two that are chosen are replaced by what they become
 
-      meet-there : m ≡ meetOf p (take n T)
-      unfolding addOf
-      meet-there = both ∙ rw (sum, second-there, first-there)
+-- q is the second one's place in the table
+module _ (T : List State) (n : ℕ) (room : n ≤ length T) (some : 2 ≤ n) (c : Pair) (chosen : c ≡ choice (take n T)) (q : ℕ)
+    (place : q ≡ past (c .fewest) (c .partner)) where
+  first-within : c .fewest < n
+  first-within = fewest-within (take n T) n (length-take-le n T room) some c chosen
 
-      pub fold-stands : (a r b : ℕ) (T′ : List State) → Added (m ∷ []) (n - 2) r T₂ T′ → b ≡ more a (changed s m + changed t m)
-          → Stands (fold (record { table = take n T; aside = a })) r b T′
-      unfolding foldAny foldAtAny
-      fold-stands a r b T′ h q = record { count = h .count ∙ ap length table; table = h .table ∙ table; aside = q ∙ aside }
-        where
-          table : add (m ∷ []) (take (n - 2) T₂) ≡ fold (record { table = take n T; aside = a }) .table
-          table = rw (meet-there, left, chosen)
+  pub second-within : q < n
+  second-within =
+      other-within (c .fewest) (c .partner) q n place
+      (let l = partner-within (take n T) n (length-take-le n T room) some c chosen in omega (arith, l))
 
-          aside : more a (changed s m + changed t m) ≡ fold (record { table = take n T; aside = a }) .aside
-          aside = rw (meet-there, second-there, first-there, chosen)
+  pub second-other : q ≢ c .fewest
+  second-other = rw place (past-other (c .fewest) (c .partner))
+
+  -- s and t are the two, and m what they become
+  module _ (s t m : State) (x : Units) (is-first : s ≡ stateAt T (c .fewest)) (is-second : t ≡ stateAt T q) (sum : x ≡ addOf (s .units) (t .units))
+      (both : m ≡ meet s t (x .0)) where
+    first-there : s ≡ firstOf c (take n T)
+    first-there = is-first ∙ sym (getD-take n T (c .fewest) noState first-within)
+
+    second-there : t ≡ secondOf c (take n T)
+    second-there =
+        is-second
+        ∙ sym (getD-take n T q noState second-within)
+        ∙ ap (stateAt (take n T)) place
+        ∙ sym (others-at noState (c .fewest) (c .partner) (take n T))
+
+    meet-there : m ≡ meetOf c (take n T)
+    unfolding addOf
+    meet-there = both ∙ rw (sum, second-there, first-there)
+
+    pub fold-stands : (a r b : ℕ) (T′ : List State) → Replaced (c .fewest) q m n r T T′ → b ≡ more a (changed s m + changed t m)
+        → Stands (fold (record { table = take n T; aside = a })) r b T′
+    unfolding foldAny foldAtAny replaced
+    fold-stands a r b T′ h e = record { count = h .count ∙ ap length table; table = h .table ∙ table; aside = e ∙ aside }
+      where
+        table : replaced (c .fewest) q m (take n T) ≡ fold (record { table = take n T; aside = a }) .table
+        table = rw (place, among-past (c .fewest) (c .partner), meet-there, chosen)
+
+        aside : more a (changed s m + changed t m) ≡ fold (record { table = take n T; aside = a }) .aside
+        aside = rw (meet-there, second-there, first-there, chosen)
 
 -- ---- folds one after the other
 

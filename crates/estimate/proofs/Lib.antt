@@ -9,6 +9,7 @@ pub mod Scratch
 -- The states that follow
 pub mod Following
 -- Folding
+pub mod Partnering
 pub mod Folding
 -- Joining two tables
 pub mod Pairing

@@ -6,6 +6,8 @@ pub mod Rooms
 pub mod Following
 -- The edges of a flat list
 pub mod Edges
+-- The partner in a fold
+pub mod Partners
 -- Joining two tables
 pub mod Pairing
 -- Working a table, a node, a graph

@@ -10,16 +10,19 @@ use rules::Pair;
 use rules::State;
 use rules::Units;
 ghost use mathlib.Core.Path.{_≡_};
-ghost use mathlib.Core.Bool.{true, cond, _||_, _&&_};
+ghost use mathlib.Core.Logic.{_≢_};
+ghost use mathlib.Core.Bool.{true, cond, _||_, _&&_, not};
 ghost use Prim.Native.Nat.{suc, _+_, _*_, _-_, _≤_, _<_};
 ghost use lib.Dec.{eqb, ltb};
-ghost use lib.ListN.{length, take};
+ghost use lib.ListN.{length, take, set};
 ghost use Rattle.rules.specs.Units.{more};
-ghost use Rattle.rules.specs.Ordered.{remove};
-ghost use Rattle.rules.specs.Table.{rising, stateAt};
-ghost use Rattle.rules.specs.Fold.{sharing as sharingOf, apart as apartOf, choice, changed as changedOf, fold, folded};
+ghost use Rattle.rules.specs.Ordered.{remove, best};
+ghost use Rattle.rules.specs.Table.{unitsOf, order, rising, stateAt};
+ghost use Rattle.rules.specs.Fold.{sharing as sharingOf, apart as apartOf, closer as closerOf, choice, changed as changedOf, fold, folded};
 ghost use Rattle.words.specs.Tables.{tableOf};
+ghost use Rattle.estimate.specs.Placing.{isSame};
 ghost use Rattle.estimate.specs.Rooms.{Stands};
+ghost use Rattle.estimate.specs.Partners.{holdsAll, isAlike, leads, nearer, NoneAlike, among, Replaced};
 
 // How many blocks `s` shares with `t`.
 pub(crate) fn sharing(s: State, t: State) -> u64
@@ -63,10 +66,123 @@ pub(crate) fn place_past(out: usize, at: usize) -> usize
     at + 1
 }
 
-// The state of fewest units among `n`, and its partner among the others. Of the best partner so far it keeps how many blocks that
-// one shares, `most`, and how far away in misses it is, `near`.
+// The place among the others than the one at place `out` of the state at place `at`.
+pub(crate) fn place_among(out: usize, at: usize) -> usize
+    ensures { λ r. ⌜ r ≡ among out at ⌝ }
+{
+    if out < at {
+        return at - 1;
+    }
+    at
+}
+
+// The partner of `s` among the others than the one at place `at`, of `n`, place by place. Of the best so far it keeps how many blocks
+// that one shares, `most`, and how far away in misses it is, `near`.
+pub(crate) fn nearest_of_all(words: &[u64], n: usize, at: usize, s: State) -> usize
+    requires { ⌜ (2 ≤ n) × (at < n) × (n * 5 ≤ length (now words)) ⌝ }
+    ensures { λ r. ⌜ r ≡ best (closerOf s) (remove at (take n (tableOf (now (words .entry))))) ⌝ }
+{
+    let first = load(words, place_past(at, 0));
+    let mut partner: usize = 0;
+    let mut most = sharing(s, first);
+    let mut near = apart(s, first);
+    let mut j: usize = 1;
+    while j + 1 < n {
+        let t = load(words, place_past(at, j));
+        if closer(s, t, most, near) {
+            partner = j;
+            most = sharing(s, t);
+            near = apart(s, t);
+        }
+        j += 1;
+    }
+    partner
+}
+
+// Whether `t` holds all blocks of `s`.
+pub(crate) fn holds_all(s: State, t: State) -> bool
+    ensures { λ r. ⌜ r ≡ holdsAll s t ⌝ }
+{
+    s.mask & t.mask == s.mask
+}
+
+// Whether `t` holds all blocks of `s` and has as many misses.
+pub(crate) fn is_alike(s: State, t: State) -> bool
+    ensures { λ r. ⌜ r ≡ isAlike s t ⌝ }
+{
+    if holds_all(s, t) {
+        return s.misses == t.misses;
+    }
+    false
+}
+
+// Whether `s` stands at place `at` before all that are alike to it.
+pub(crate) fn stands_first(words: &[u64], at: usize, s: State) -> bool
+    requires { ⌜ at * 5 ≤ length (now words) ⌝ }
+    ensures { λ r. ⌜ r ≡ leads s (tableOf (now (words .entry))) at ⌝ }
+{
+    if 65535 < s.mask {
+        return false;
+    }
+    if at == 0 {
+        return true;
+    }
+    !is_alike(s, load(words, at - 1))
+}
+
+// Whether the state at place `j`, another than the one at place `at`, holds all blocks of `s` and is nearer in misses than `near`.
+pub(crate) fn is_nearer(words: &[u64], at: usize, s: State, j: usize, near: u64) -> bool
+    requires { ⌜ j * 5 + 5 ≤ length (now words) ⌝ }
+    ensures { λ r. ⌜ r ≡ (not (eqb j at) && nearer s (stateAt (tableOf (now (words .entry))) j) near) ⌝ }
+{
+    if j == at {
+        return false;
+    }
+    let t = load(words, j);
+    if holds_all(s, t) {
+        return apart(s, t) < near;
+    }
+    false
+}
+
+// The place of the nearest in misses of the states that hold all blocks of `s`, which stands at place `at` of `n`; `n` if none is found. None is
+// alike, so that one miss apart is as near as can be.
+pub(crate) fn nearest_holder(words: &[u64], n: usize, at: usize, s: State) -> usize
+    requires { ⌜ (at < n) × (n * 5 ≤ length (now words)) × (s .mask < 65536) × NoneAlike s (take n (tableOf (now words))) at ⌝ }
+    ensures { λ r. ⌜ (r < n → among at r ≡ best (closerOf s) (remove at (take n (tableOf (now (words .entry)))))) ⌝ }
+{
+    let mut found = n;
+    let mut near: u64 = 18446744073709551615;
+    let mut j: usize = 0;
+    while j < n {
+        if near <= 1 {
+            return found;
+        }
+        if is_nearer(words, at, s, j, near) {
+            found = j;
+            near = apart(s, load(words, j));
+        }
+        j += 1;
+    }
+    found
+}
+
+// The partner of `s`, which stands at place `at` of `n`, where none is alike: the nearest of those that hold all its blocks, and else the best of all.
+pub(crate) fn nearest(words: &[u64], n: usize, at: usize, s: State) -> usize
+    requires { ⌜ (2 ≤ n) × (at < n) × (n * 5 ≤ length (now words)) × (s .mask < 65536) × NoneAlike s (take n (tableOf (now words))) at ⌝ }
+    ensures { λ r. ⌜ r ≡ best (closerOf s) (remove at (take n (tableOf (now (words .entry))))) ⌝ }
+{
+    let found = nearest_holder(words, n, at, s);
+    if found < n {
+        return place_among(at, found);
+    }
+    nearest_of_all(words, n, at, s)
+}
+
+// The state of fewest units among `n`, and its partner among the others. Most often a state alike to it stands not far behind it: the first such one is
+// the partner.
 pub(crate) fn choose(words: &[u64], n: usize) -> Pair
-    requires { ⌜ (2 ≤ n) × (n * 5 ≤ length (now words)) ⌝ }
+    requires { ⌜ (2 ≤ n) × (n * 5 ≤ length (now words)) × (rising (take n (tableOf (now words))) ≡ true) ⌝ }
     ensures { λ r. ⌜ r ≡ choice (take n (tableOf (now (words .entry)))) ⌝ }
 {
     let mut fewest: usize = 0;
@@ -82,20 +198,25 @@ pub(crate) fn choose(words: &[u64], n: usize) -> Pair
             i += 1;
         } else {
             let s = load(words, fewest);
-            let first = load(words, place_past(fewest, 0));
-            let mut partner: usize = 0;
-            let mut most = sharing(s, first);
-            let mut near = apart(s, first);
-            let mut j: usize = 1;
+            if !stands_first(words, fewest, s) {
+                break 'search Pair {
+                    fewest,
+                    partner: nearest_of_all(words, n, fewest, s),
+                };
+            }
+            let mut j = fewest + 1;
             loop {
-                if j + 1 >= n {
-                    break 'search Pair { fewest, partner };
+                if n <= j {
+                    break 'search Pair {
+                        fewest,
+                        partner: nearest(words, n, fewest, s),
+                    };
                 }
-                let t = load(words, place_past(fewest, j));
-                if closer(s, t, most, near) {
-                    partner = j;
-                    most = sharing(s, t);
-                    near = apart(s, t);
+                if is_alike(s, load(words, j)) {
+                    break 'search Pair {
+                        fewest,
+                        partner: j - 1,
+                    };
                 }
                 j += 1;
             }
@@ -117,15 +238,52 @@ pub(crate) fn take_out(words: &mut [u64], n: usize, at: usize)
     }
 }
 
-// Takes the state at place `at` out of the first `n` states.
-pub(crate) fn pull(words: &mut [u64], n: usize, at: usize) -> State
-    requires { ⌜ (at < n) × (n * 5 ≤ length (now words)) ⌝ }
-    ensures state { λ r. ⌜ r ≡ stateAt (tableOf (now (words .entry))) at ⌝ }
-    ensures table { λ _. ⌜ take (n - 1) (tableOf (now (words .exit))) ≡ remove at (take n (tableOf (now (words .entry)))) ⌝ }
+// Whether `m`, if it has units, stands where the state at place `at` stands.
+pub(crate) fn stays_at(words: &[u64], at: usize, m: State) -> bool
+    requires { ⌜ at * 5 + 5 ≤ length (now words) ⌝ }
+    ensures { λ r. ⌜ r ≡ (not (eqb (unitsOf m) 0) && isSame (order m (stateAt (tableOf (now (words .entry))) at))) ⌝ }
 {
-    let s = load(words, at);
-    take_out(words, n, at);
-    s
+    let u = m.units;
+    if u.0 == 0 {
+        return false;
+    }
+    is_same(m, load(words, at))
+}
+
+// The first `n` states without the one at place `out`, and `m` in place of the one at place `at`.
+pub(crate) fn keep(words: &mut [u64], n: usize, at: usize, out: usize, m: State)
+    requires { ⌜ (at < n) × (out < n) × (at ≢ out) × (n * 5 ≤ length (now words)) ⌝ }
+    ensures { λ _. ⌜ take (n - 1) (tableOf (now (words .exit))) ≡ set (remove out (take n (tableOf (now (words .entry))))) (among out at) m ⌝ }
+{
+    take_out(words, n, out);
+    store(words, place_among(out, at), m);
+}
+
+// `m` in place of the states at places `i` and `p`, of `n`, which are both taken out; how many states there are then.
+pub(crate) fn put_anew(words: &mut [u64], n: usize, i: usize, p: usize, m: State) -> usize
+    requires { ⌜ (i < n) × (p < n) × (p ≢ i) × (n * 5 ≤ length (now words)) × (rising (take n (tableOf (now words))) ≡ true) ⌝ }
+    ensures { λ r. ⌜ Replaced i p m n r (tableOf (now (words .entry))) (tableOf (now (words .exit))) ⌝ }
+{
+    take_out(words, n, i);
+    take_out(words, n - 1, place_among(i, p));
+    add(words, n - 2, m)
+}
+
+// The same. Most often it stands where one of the two stood: then only
+// the other one goes.
+pub(crate) fn replace(words: &mut [u64], n: usize, i: usize, p: usize, m: State) -> usize
+    requires { ⌜ (i < n) × (p < n) × (p ≢ i) × (n * 5 ≤ length (now words)) × (rising (take n (tableOf (now words))) ≡ true) ⌝ }
+    ensures { λ r. ⌜ Replaced i p m n r (tableOf (now (words .entry))) (tableOf (now (words .exit))) ⌝ }
+{
+    if stays_at(words, i, m) {
+        keep(words, n, i, p, m);
+        return n - 1;
+    }
+    if stays_at(words, p, m) {
+        keep(words, n, p, i, m);
+        return n - 1;
+    }
+    put_anew(words, n, i, p, m)
 }
 
 // The units of `s`, where its mask, misses or filled numbers are not those of `m`.
@@ -153,14 +311,14 @@ pub(crate) fn fold_once(words: &mut [u64], n: usize, aside: Units) -> Tally
 {
     let pair = choose(words, n);
     let i = pair.fewest;
-    let j = pair.partner;
-    let s = pull(words, n, i);
-    let t = pull(words, n - 1, j);
+    let p = place_past(i, pair.partner);
+    let s = load(words, i);
+    let t = load(words, p);
     let u = s.units;
     let v = t.units;
     let m = meet(s, t, u.add(v));
     Tally {
-        states: add(words, n - 2, m),
+        states: replace(words, n, i, p, m),
         aside: set_aside(aside, s, t, m),
     }
 }

@@ -20,6 +20,9 @@ pub mod AnyTable
 pub mod Table
 pub mod Step
 pub mod Fold
+pub mod Partners
+pub mod Replacing
+pub mod Thirds
 pub mod Join
 -- The tables of runs and graphs
 pub mod Run

@@ -188,7 +188,7 @@ pub number-same : (a b : ℕ) → a ≡ b → byNumber a b ≡ same
 number-same a b e = rw (le-ltb a b (omega arith), eq-eqb a b e)
 
 -- what it says
-said-before : (a b : ℕ) → byNumber a b ≡ before → a < b
+pub said-before : (a b : ℕ) → byNumber a b ≡ before → a < b
 said-before a b =
     number-cases a b (λ o. o ≡ before → a < b) (λ l e. l) (λ q e. let z : _≡_ {A = ℕ} 0 1 = cc in absurd (omega arith))
     (λ l e. let z : _≡_ {A = ℕ} 0 1 = cc in absurd (omega arith))

@@ -1,24 +1,25 @@
--- `choose` searches twice, place by place. The outer loop's invariant: the search for the fewest units has come to place `i`. Once it has
--- seen all, the inner loop searches the others in the same way for the partner, and leaves both loops with the two places.
+-- `choose` searches twice, the second search nested in the first. The outer loop's invariant: the search for the fewest units has come to place `i`. Once
+-- it has seen all, the inner loop goes on behind the state that it found: none alike stands before place `j`. The first one alike is the partner, and
+-- leaves both loops.
 use mathlib.Core.Logic.{⊎-elim}
-use Prim.Native.Nat.{suc, _+_, _-_, _≤_, _<_}
+use Prim.Native.Nat.{_+_, _-_, _≤_, _<_}
 use native.Mathlib.Omega.{arith}
 use denote.Ref.{now}
 use lib.ListN.{length, take}
 use borrow.Author.Needs.{needs}
-use Rattle.rules.specs.Ordered.{remove}
+use borrow.Author.Tests.{not-false}
 use Rattle.words.specs.Tables.{tableOf}
 use Rattle.words.proofs.Tables.{fits-table}
-use Rattle.estimate.proofs.Folding.{other-within, Fewest, fewest-start, fewest-less, fewest-more, fewest-end, Nearest, partner-start, partner-closer, partner-other, choice-found}
+use Rattle.estimate.proofs.Partnering.{Unlike, tracked-only, ahead-start, ahead-turn, ahead-none, ahead-found}
+use Rattle.estimate.proofs.Folding.{Fewest, fewest-start, fewest-less, fewest-more, fewest-end, choice-found}
 use Rattle.estimate.proofs.fold.choose.Statement.{statement}
 use Rattle.estimate.proofs.fold.choose.Tie as tie
 
 abbrev Inv-loop : tie.InvT-loop
-Inv-loop words n fewest i s partner₀ most₀ near₀ j₀ partner most near j =
-    (j < n) × Nearest s (remove fewest (take n (tableOf words))) partner most near j
+Inv-loop words n fewest i s j₀ j = (fewest < j) × (j ≤ n) × Unlike s (take n (tableOf words)) fewest j
 
 abbrev μ-loop : tie.MeasureT-loop
-μ-loop words n fewest i s partner₀ most₀ near₀ j₀ partner most near j = n - j
+μ-loop words n fewest i s j₀ j = n - j
 
 abbrev Inv-search : tie.InvT-search
 Inv-search words n fewest₀ units₀ i₀ fewest units i = (i ≤ n) × (fewest < i) × Fewest (take n (tableOf words)) fewest (units .0) i
@@ -47,66 +48,78 @@ search-again c =
           (c .if2 .came),
     )
 
-load-requires-4 : tie.Need-load-requires-4 Inv-loop μ-loop Inv-search μ-search
-load-requires-4 c κs = let b = c .before .before .before in
-    let a = b .before .before .before .before .args in
-    let within : c .place-past .result < a .n = other-within (b .search .fewest) 0 (c .place-past .result) (a .n) (c .place-past .ensures) (omega arith) in
-    omega arith
-
 loop-holds : tie.Need-loop-holds Inv-loop μ-loop Inv-search μ-search
 loop-holds c =
-    let b = c .before .before .before .before .before .before in
+    let b = c .before .before .before .before in
+    let a = b .before .before .before .before in
+    let t = tableOf (now (a .args .words)) in
+    let room : a .args .n ≤ length t = fits-table (now (a .args .words)) (a .args .n) (omega arith) in (
+      search needs,
+      search needs,
+      ahead-start _ t (a .args .n) (b .search .fewest) room (omega arith) _ (c .before .stands-first .ensures) (not-false _ (c .if3 .left))
+          (c .before .before .load3 .ensures) (a .pre .2),
+    )
+
+nearest-requires : tie.Need-nearest-requires Inv-loop μ-loop Inv-search μ-search
+nearest-requires c κs =
+    let l = c .before in
+    let f = l .before .before in
+    let b = f .before .before .before in
     let a = b .before .before .before .before .args in
     let t = tableOf (now (a .words)) in
     let room : a .n ≤ length t = fits-table (now (a .words)) (a .n) (omega arith) in
-    let place = c .before .before .before .place-past .ensures in
-    let there = c .before .before .load4 .ensures in (
+    let among : b .search .fewest < a .n = omega arith in (
       search needs,
-      rw (c .before .sharing .ensures, c .apart .ensures)
-          (partner-start t (a .n) room (b .search .fewest) (omega arith) _ _ _ (omega arith) place there),
+      among,
+      search needs,
+      tracked-only (f .before .load3 .result) t (a .n) (b .search .fewest) room among _ (f .stands-first .ensures) (not-false _ (l .before .if3 .left)),
+      ahead-none (f .before .load3 .result) t (a .n) (b .search .fewest) room among _ (c .if4 .taken) (l .loop .inv .2),
     )
-
-load-requires-5 : tie.Need-load-requires-5 Inv-loop μ-loop Inv-search μ-search
-load-requires-5 c κs = let l = c .before .before in
-    let b = l .before .before .before .before .before .before .before in
-    let a = b .before .before .before .before .args in
-    let within : c .place-past2 .result < a .n = other-within (b .search .fewest) (l .loop .j) (c .place-past2 .result) (a .n) (c .place-past2 .ensures) (omega arith) in
-    omega arith
-
-add-j : tie.Need-add-j Inv-loop μ-loop Inv-search μ-search
-add-j c = let l = c .before .before .before .before .before in
-    let start = l .before .before .before .before .before .before .before .before .before .before .before in
-    omega (arith, c .before .before .before .before .if3 .left, start .fits)
 
 loop-again : tie.Need-loop-again Inv-loop μ-loop Inv-search μ-search
 loop-again c =
-    let l = c .before .before .before .before .before in
-    let b = l .before .before .before .before .before .before .before in
+    let l = c .before .before .before .before in
+    let b = l .before .before .before .before .before in
     let a = b .before .before .before .before .args in
     let t = tableOf (now (a .words)) in
-    let room : a .n ≤ length t = fits-table (now (a .words)) (a .n) (omega arith) in
-    let among : b .search .fewest < a .n = omega arith in
-    let next : suc (l .loop .j) < a .n = omega arith in
-    let place = c .before .before .before .place-past2 .ensures in
-    let there = c .before .before .load5 .ensures in
-    let said = c .before .closer .ensures in
-    let h = l .loop .inv .1 in (
+    let room : a .n ≤ length t = fits-table (now (a .words)) (a .n) (omega arith) in (
       search needs,
-      ⊎-elim
-          (λ w. rw (w .3, w .4, w .5, w .1 .ensures, w .2 .ensures) (partner-closer t (a .n) room _ among _ _ _ _ next place there _ _ _ _ said h (w .0 .taken)))
-          (λ w. rw (w .1, w .2, w .3) (partner-other t (a .n) room _ among _ _ _ _ next place there _ _ _ _ said h (w .0 .left)))
-          (c .if4 .came),
+      search needs,
+      ahead-turn (l .before .before .before .load3 .result) t (a .n) (b .search .fewest) room (omega arith) (l .loop .j) _ _ (c .before .before .before .if4 .left) (c .before .before .load4 .ensures)
+          (c .before .is-alike .ensures) (l .loop .inv .2) (c .if5 .left),
     )
 
 returns : tie.Need-returns Inv-loop μ-loop Inv-search μ-search
 returns c =
-    let l = c .before in
-    let b = l .before .before .before .before .before .before .before in
+    let b = c .before .before .before .before .before in
     let a = b .before .before .before .before .args in
     let t = tableOf (now (a .words)) in
     let room : a .n ≤ length t = fits-table (now (a .words)) (a .n) (omega arith) in
-    choice-found t (a .n) room (b .search .fewest) (omega arith) _ (l .loop .partner) _ _ _ (l .before .before .before .before .before .load3 .ensures)
-    (fewest-end t (a .n) room _ _ _ (omega arith) (b .search .inv .2)) (omega arith) (l .loop .inv .1)
+    choice-found t (a .n) room (b .search .fewest) (omega arith) _ _ (c .before .before .before .load3 .ensures)
+    (fewest-end t (a .n) room _ _ _ (omega arith) (b .search .inv .2)) (c .nearest-of-all .ensures)
+
+returns-2 : tie.Need-returns-2 Inv-loop μ-loop Inv-search μ-search
+returns-2 c =
+    let b = c .before .before .before .before .before .before .before in
+    let a = b .before .before .before .before .args in
+    let t = tableOf (now (a .words)) in
+    let room : a .n ≤ length t = fits-table (now (a .words)) (a .n) (omega arith) in
+    choice-found t (a .n) room (b .search .fewest) (omega arith) _ _ (c .before .before .before .before .before .load3 .ensures)
+    (fewest-end t (a .n) room _ _ _ (omega arith) (b .search .inv .2)) (c .nearest .ensures)
+
+returns-3 : tie.Need-returns-3 Inv-loop μ-loop Inv-search μ-search
+returns-3 c =
+    let l = c .before .before .before .before in
+    let f = l .before .before in
+    let b = f .before .before .before in
+    let a = b .before .before .before .before .args in
+    let t = tableOf (now (a .words)) in
+    let room : a .n ≤ length t = fits-table (now (a .words)) (a .n) (omega arith) in
+    let among : b .search .fewest < a .n = omega arith in
+    choice-found t (a .n) room (b .search .fewest) among _ _ (f .before .load3 .ensures) (fewest-end t (a .n) room _ _ _ (omega arith) (b .search .inv .2))
+    (ahead-found (f .before .load3 .result) t (a .n) (b .search .fewest) room among (l .loop .j) _ _ (c .before .before .before .if4 .left) (c .before .before .load4 .ensures)
+    (c .before .is-alike .ensures) (l .loop .inv .2) (c .if5 .taken)
+    (tracked-only (f .before .load3 .result) t (a .n) (b .search .fewest) room among _ (f .stands-first .ensures) (not-false _ (l .before .if3 .left))) (l .loop .inv .0))
 
 pub choose-spec : {M : Type 1} → statement M
 choose-spec =
@@ -124,17 +137,16 @@ choose-spec =
     search-again
     (λ c κs. search needs)
     (λ c κs. search needs)
-    load-requires-4
     (λ c κs. search needs)
-    (λ c κs. search needs)
-    loop-holds
     (λ c. search needs)
+    loop-holds
+    nearest-requires
     (λ c κs. search needs)
-    load-requires-5
     (λ c κs. search needs)
-    (λ c κs. search needs)
-    (λ c κs. search needs)
-    add-j
+    (λ c. search needs)
+    (λ c. search needs)
     (λ c. search needs)
     loop-again
-    returns)
+    returns
+    returns-2
+    returns-3)

@@ -1,5 +1,4 @@
--- `fold_once` takes the two chosen states out, one after the other, and puts in what they become. Both places lie in the table, and what is
--- left of it rises.
+-- `fold_once` replaces the two chosen states, which stand at two places of the table, by what they become.
 use Prim.Native.Nat.{_≤_}
 use native.Mathlib.Omega.{arith}
 use denote.Ref.{now}
@@ -8,69 +7,74 @@ use lib.Seq.{length-take-le}
 use borrow.Author.Needs.{needs}
 use Rattle.words.specs.Tables.{tableOf}
 use Rattle.words.proofs.Tables.{fits-table}
-use Rattle.estimate.proofs.Folding.{fewest-within, partner-within, rising-left, fold-stands}
+use Rattle.estimate.proofs.Folding.{fewest-within, partner-within, second-within, second-other, fold-stands}
 use Rattle.estimate.proofs.fold.fold_once.Statement.{statement}
 use Rattle.estimate.proofs.fold.fold_once.Tie as tie
 
-pull-requires : tie.Need-pull-requires
-pull-requires c κs =
-    let a = c .before .before .before .before .args in
+place-past-requires : tie.Need-place-past-requires
+place-past-requires c κs =
+    let a = c .before .before .before .args in
     let t = tableOf (now (a .words)) in
     let room : a .n ≤ length t = fits-table (now (a .words)) (a .n) (omega arith) in
-    (fewest-within (take (a .n) t) (a .n) (length-take-le (a .n) t room) (omega arith) _ (c .before .choose .ensures), search needs)
+    let within = partner-within (take (a .n) t) (a .n) (length-take-le (a .n) t room) (omega arith) _ (c .choose .ensures) in
+    omega (arith, within, c .before .before .before .fits)
 
-pull-requires-2 : tie.Need-pull-requires-2
-pull-requires-2 c κs =
-    let p = c .before .before .before .before .before in
-    let a = p .before .before .before .args in
+load-requires : tie.Need-load-requires
+load-requires c κs =
+    let a = c .before .before .before .before .before .args in
     let t = tableOf (now (a .words)) in
     let room : a .n ≤ length t = fits-table (now (a .words)) (a .n) (omega arith) in
-    (partner-within (take (a .n) t) (a .n) (length-take-le (a .n) t room) (omega arith) _ (p .choose .ensures), search needs)
+    let within = fewest-within (take (a .n) t) (a .n) (length-take-le (a .n) t room) (omega arith) _ (c .before .before .choose .ensures) in
+    omega (arith, within)
 
-sub-add : tie.Need-sub-add
-sub-add c =
-    let y = c .before .before .before .before .before .before .before in
-    let p = y .before .before .before .before .before .before in
-    omega (arith, p .before .before .before .pre .0)
-
-add-requires-2 : tie.Need-add-requires-2
-add-requires-2 c κs =
-    let y = c .before .before .before .before .before .before .before in
-    let x = y .before .before .before .before in
-    let p = x .before .before in
-    let a = p .before .before .before .args in
+load-requires-2 : tie.Need-load-requires-2
+load-requires-2 c κs =
+    let p = c .before .before .before in
+    let a = p .before .before .before .before .args in
     let t = tableOf (now (a .words)) in
-    let room : a .n ≤ length t = fits-table (now (a .words)) (a .n) (omega arith) in (
+    let room : a .n ≤ length t = fits-table (now (a .words)) (a .n) (omega arith) in
+    let within = second-within t (a .n) room (omega arith) _ (p .before .choose .ensures) _ (p .place-past .ensures) in
+    omega (arith, within)
+
+replace-requires : tie.Need-replace-requires
+replace-requires c κs =
+    let p = c .before .before .before .before .before .before .before .before .before in
+    let x = p .before .before .before .before in
+    let a = x .args in
+    let t = tableOf (now (a .words)) in
+    let room : a .n ≤ length t = fits-table (now (a .words)) (a .n) (omega arith) in
+    let chosen = p .before .choose .ensures in (
+      fewest-within (take (a .n) t) (a .n) (length-take-le (a .n) t room) (omega arith) _ chosen,
+      second-within t (a .n) room (omega arith) _ chosen _ (p .place-past .ensures),
+      second-other t (a .n) room (omega arith) _ chosen _ (p .place-past .ensures),
       search needs,
-      rising-left t (a .n) room (omega arith) _ (p .choose .ensures) _ _ (x .pull .ensures .1) (y .pull2 .ensures .1)
-          (p .before .before .before .pre .2),
+      x .pre .2,
     )
 
 returns : tie.Need-returns
 returns c =
     let m = c .before .before .before .before .before in
-    let y = m .before .before .before .before .before .before in
-    let x = y .before .before .before .before in
-    let p = x .before .before in
-    let a = p .before .before .before .args in
+    let t₂ = m .before .before .before .before in
+    let s₂ = t₂ .before .before in
+    let p = s₂ .before .before in
+    let x = p .before .before .before .before in
+    let a = x .args in
     let t = tableOf (now (a .words)) in
-    let room : a .n ≤ length t = fits-table (now (a .words)) (a .n) (omega arith) in
-    fold-stands t (a .n) room (omega arith) _ (p .choose .ensures) _ _ (x .pull .ensures .1) (y .pull2 .ensures .1)
-    _ _ _ _ (x .pull .ensures .0) (y .pull2 .ensures .0) (m .before .add .ensures) (m .meet .ensures)
-    _ _ _ _ (c .before .before .before .add2 .ensures) (c .set-aside .ensures)
+    let room : a .n ≤ length t = fits-table (now (a .words)) (a .n) (omega (arith, x .pre .1)) in
+    fold-stands t (a .n) room (x .pre .0) _ (p .before .choose .ensures) _ (p .place-past .ensures) _ _ _ _
+    (s₂ .load .ensures) (t₂ .load2 .ensures) (m .before .add .ensures) (m .meet .ensures) _ _ _ _ (c .before .before .before .replace .ensures) (c .set-aside .ensures)
 
 pub fold-once-spec : {M : Type 1} → statement M
 fold-once-spec =
     tie.close
     (tie.spec
     (λ c κs. search needs)
-    pull-requires
-    (λ c. search needs)
-    pull-requires-2
+    place-past-requires
+    load-requires
+    load-requires-2
     (λ c κs. search needs)
     (λ c κs. search needs)
-    sub-add
-    add-requires-2
+    replace-requires
     (λ c κs. search needs)
     (λ c. search needs)
     returns)
