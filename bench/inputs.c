@@ -920,7 +920,7 @@ const char *make_heavy_input(size_t which, struct input *input)
 {
     static const char *const names[HEAVY_INPUTS + GROWTH_INPUTS] = {
         "shuffled", "random", "cyclic", "random-8-ways", "random-limit-8", "graph-two-edges", "graph-all-edges",
-        "random-4-sets", "random-revision-2",
+        "random-4-sets", "random-revision-2", "random-limit-1", "cyclic-2-ways",
         "random-512", "random-1024", "random-2048", "random-4096",
     };
     if (which >= HEAVY_INPUTS + GROWTH_INPUTS)
@@ -935,6 +935,10 @@ const char *make_heavy_input(size_t which, struct input *input)
         make_wide_graph(input, which == 5 ? 2 : 63);
     else if (which < 9)
         make_run_in_sets(input, which == 7 ? 1 : 2);
+    else if (which == 9)
+        make_straight_run(input, RANDOM, 4096, 16, 1);
+    else if (which == 10)
+        make_straight_run(input, CYCLIC, 4096, 2, 64);
     else
         make_straight_run(input, RANDOM, (size_t)512 << (which - HEAVY_INPUTS), 16, 64);
     return names[which];

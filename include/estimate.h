@@ -9,9 +9,9 @@
  *
  * A call keeps no state: nothing is left of it but what it wrote to the memory that it was lent. So the functions are reentrant, and calls may run at the same
  * time, in threads or one interrupting another, as long as what each is lent for writing is lent to it alone. They use no heap, and no memory but what they
- * are lent and the stack, of which 8,192 bytes are enough: only those below estimate_listing call each other, 8 deep at most, and a painted stack showed 2,064 bytes for
- * the graph call, 2,656 for a curve's text, 3,880 for a listing 8 deep and 5,712 for the deepest, a question put to a row of states, on each of the large inputs
- * that were tried. The stack of the functions for the best case, which are laid out as those of the graph call and of its spread, was not measured.
+ * are lent and the stack, of which 8,192 bytes are enough: only those below estimate_listing call each other, 8 deep at most, and a painted stack showed 2,184 bytes for
+ * the graph call, 664 for the best case, 2,968 for a curve's text, 3,864 for a listing 8 deep, 5,096 for the nightly build and 5,704 for the deepest, a question put to a row of
+ * states, on each of the large inputs that were tried.
  *
  * Linked from libestimate_c.a, for x86-64, which takes of the C library only memcpy and memset. `rt staticlib estimate_c` makes it:
  *

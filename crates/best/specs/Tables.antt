@@ -75,13 +75,15 @@ meet s t u = having (folds s t) u
 abbrev pub foldAt : Pair → Work → Work
 foldAt p w = foldAtOf kind p w
 
--- one fold, n folds at most, and all that are needed for K states
+-- one fold
 abbrev pub fold : Work → Work
 fold w = foldOf kind w
 
+-- only while more than K states remain: n folds at most
 abbrev pub foldsOf : ℕ → Bool → ℕ → Work → Work
 foldsOf n enough K w = foldsOfAny kind n enough K w
 
+-- folded until at most K states are left
 abbrev pub folded : ℕ → Work → Work
 folded K w = foldedOf kind K w
 
@@ -101,29 +103,35 @@ run N Z K ts l bs w = runOf kind N Z K ts l bs w
 abbrev pub pairOf : BestState → BestState → ℕ → BestState
 pairOf s t u = having (joins s t) u
 
--- what a pair gives, and what a pairing makes of two tables
+-- what a pair gives
 abbrev pub matched : List BestState → List BestState → Match → BestState
 matched S T p = matchedOf kind S T p
 
+-- what a pairing makes of two tables
 abbrev pub paired : List Match → List BestState → List BestState → List BestState
 paired P S T = pairedOf kind P S T
 
--- the walk over both tables from the front
+-- s with u units less
 abbrev pub less : BestState → ℕ → BestState
 less s u = lessOf listing s u
 
+-- what is left of a table whose first state is s when u of its units are used
 abbrev pub leftAfter : ℕ → BestState → List BestState → List BestState
 leftAfter u s S = leftAfterOf listing u s S
 
+-- the place of what is then first
 abbrev pub placeAfter : ℕ → BestState → ℕ → ℕ
 placeAfter u s i = placeAfterOf listing u s i
 
+-- pair as many units as the smaller remaining amount allows; n steps
 abbrev pub walk : ℕ → ℕ → ℕ → List BestState → List BestState → List Match
 walk n i j S T = walkOf listing n i j S T
 
+-- as many steps as there are states are enough
 abbrev pub fromFront : List BestState → List BestState → List Match
 fromFront S T = fromFrontOf listing S T
 
+-- both tables from the front
 abbrev pub join : List BestState → List BestState → List BestState
 join S T = joinOf kind S T
 
@@ -137,16 +145,19 @@ Worked = AnyWorked BestState
 abbrev pub tableAt : Worked → ℕ → List BestState
 tableAt d j = tableAtOf d j
 
--- the tables of the nodes ps joined to that of w, what a node starts from, its table, and those of so many nodes
+-- the tables of the nodes ps joined to that of w
 abbrev pub joinAll : ℕ → Worked → List ℕ → Work → Work
 joinAll K d ps w = joinAllOf kind K d ps w
 
+-- what a node starts from, whose predecessors are ps
 abbrev pub enter : ℕ → BestState → Worked → List ℕ → Work
 enter K s d ps = enterOf kind K s d ps
 
+-- node j, after the nodes before it
 abbrev pub node : Input → ℕ → Worked → Work
 node i j d = nodeOf kind i j d
 
+-- so many nodes from the first on, worked in order
 abbrev pub worked : Input → ℕ → Worked
 worked i n = workedOf kind i n
 

@@ -15,10 +15,11 @@ pub record InWords (A : Type 0) : Type 0 where
   pub tableOf : List ℕ → List A
   pub stored : List ℕ → ℕ → A → List ℕ
 
--- document 01's states, and the best case's
+-- document 01's states
 abbrev pub states : InWords State
 states = record { tableOf = words.tableOf; stored = words.stored }
 
+-- the best case's states
 abbrev pub bestStates : InWords BestState
 bestStates = record { tableOf = bestWords.tableOf; stored = bestWords.stored }
 

@@ -105,6 +105,7 @@ abbrev pub missCountSays : MissCount → AnswerSays
 missCountSays (LargestMisses m) = record { number = 0; value = m .0 }
 missCountSays (RefusedMisses r) = record { number = numberOf r; value = 0 }
 
+-- what an answer about hits says
 abbrev pub hitCountSays : HitCount → AnswerSays
 hitCountSays (LargestHits h) = record { number = 0; value = h .0 }
 hitCountSays (RefusedHits r) = record { number = numberOf r; value = 0 }

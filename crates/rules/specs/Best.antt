@@ -21,13 +21,15 @@ exactState C m h u = record { exact = true; mask = C; misses = record { 0 = m };
 abbrev pub openState : ℕ → ℕ → ℕ → BestState
 openState m h u = record { exact = false; mask = 0; misses = record { 0 = m }; hits = record { 0 = h }; units = units u }
 
--- its misses, its hits and its units as numbers
+-- its misses as a number
 abbrev pub missesOf : BestState → ℕ
 missesOf s = s .misses .0
 
+-- its hits as a number
 abbrev pub hitsOf : BestState → ℕ
 hitsOf s = s .hits .0
 
+-- its units as a number
 abbrev pub unitsOf : BestState → ℕ
 unitsOf s = s .units .0
 
@@ -105,6 +107,7 @@ joins s t =
 
 -- ---- the kind of table that they make
 
+-- how its states are listed; past the end there is an open state of 0 units
 abbrev pub listing : Listing BestState
 listing = record { units = unitsOf; having = having; order = order; none = openState 0 0 0 }
 

@@ -35,17 +35,19 @@ isBestTable T = leb 1 (length T) && leb (length T) 64 && rises order T && allBes
 
 -- ---- what is asked of it
 
--- the units at each miss count from 0 to the largest present, and at each hit count
+-- the units at each miss count from 0 to the largest present
 unfoldable pub missSpread : List BestState → List ℕ
 missSpread T = spread unitsOf missesOf T
 
+-- the units at each hit count from 0 to the largest present
 unfoldable pub hitSpread : List BestState → List ℕ
 hitSpread T = spread unitsOf hitsOf T
 
--- the units with more than B misses, and with more than B hits
+-- the units with more than B misses
 unfoldable pub missesAbove : ℕ → List BestState → ℕ
 missesAbove B T = above unitsOf missesOf B T
 
+-- the units with more than B hits
 unfoldable pub hitsAbove : ℕ → List BestState → ℕ
 hitsAbove B T = above unitsOf hitsOf B T
 
@@ -64,30 +66,34 @@ abbrev pub roomAfter : Verdict → List ℕ → List ℕ → List ℕ
 roomAfter Accepted counts room = counts ++ replicate (length room - length counts) 0
 roomAfter (Refused r) counts room = room
 
--- the largest count, or the refusal
+-- the largest miss count, or the refusal
 abbrev pub missesOr : Verdict → ℕ → MissCount
 missesOr Accepted m = LargestMisses (record { 0 = m })
 missesOr (Refused r) m = RefusedMisses r
 
+-- the largest hit count, or the refusal
 abbrev pub hitsOr : Verdict → ℕ → HitCount
 hitsOr Accepted h = LargestHits (record { 0 = h })
 hitsOr (Refused r) h = RefusedHits r
 
--- what a spread answers, the largest count of its kind, and what it leaves in the lent room
+-- what a spread of misses answers, the largest miss count, and what it leaves in the lent room
 pub record MissSpreadAnswer : Type 0 where
   pub answer : MissCount
   pub room : List ℕ
 
+-- the same of a spread of hits
 pub record HitSpreadAnswer : Type 0 where
   pub answer : HitCount
   pub room : List ℕ
 
+-- the spread of misses
 unfoldable pub missSpreadAnswer : List BestState → List ℕ → MissSpreadAnswer
 missSpreadAnswer row room =
     let m = largest missesOf row in
     let v = first (spreadReasons row m room) in
     record { answer = missesOr v m; room = roomAfter v (missSpread row) room }
 
+-- the spread of hits
 unfoldable pub hitSpreadAnswer : List BestState → List ℕ → HitSpreadAnswer
 hitSpreadAnswer row room =
     let h = largest hitsOf row in

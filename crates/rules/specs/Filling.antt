@@ -17,17 +17,19 @@ unfoldable pub wordFrom : ℕ → List ℕ → ℕ
 wordFrom w [] = w
 wordFrom w (n ∷ ns) = wordFrom (w * 256 + n) ns
 
--- the sixteen numbers, and the words that sixteen numbers make
+-- the sixteen numbers
 unfoldable pub numbersOf : Filled → List ℕ
 numbersOf F = bytesOf 8 (F .front) ++ bytesOf 8 (F .back)
 
+-- the words that sixteen numbers make
 unfoldable pub filledFrom : List ℕ → Filled
 filledFrom ns = record { front = wordFrom 0 (take 8 ns); back = wordFrom 0 (drop 8 ns) }
 
--- the number of set j, and F with another number for it
+-- the number of set j
 unfoldable pub filledAt : Filled → ℕ → ℕ
 filledAt F j = getD (numbersOf F) j 0
 
+-- F with n for set j
 unfoldable pub withFilled : Filled → ℕ → ℕ → Filled
 withFilled F j n = filledFrom (set (numbersOf F) j n)
 

@@ -64,23 +64,27 @@ edgesKept n ns = let es = edgesOf ns in inPairs ns && forward n es && rises edge
 abbrev pub setCounts : List ℕ
 setCounts = 1 ∷ 2 ∷ 4 ∷ 8 ∷ 16 ∷ []
 
--- 1: the ways; 10: the set count; 11: the revision
+-- 1: the ways
 abbrev pub waysReason : Input → Reason
 waysReason i = when (outside 1 16 (i .ways)) Ways
 
+-- 10: the set count
 abbrev pub setsReason : Input → Reason
 setsReason i = when (not (among setCounts (i .sets))) Sets
 
+-- 11: the revision
 abbrev pub revisionReason : Input → Reason
 revisionReason i = when (outside 1 2 (i .revision)) Revision
 
--- 2: the state limit; 3: the tracked blocks; 4: the number of accesses
+-- 2: the state limit
 abbrev pub limitReason : Input → Reason
 limitReason i = when (outside 1 64 (i .limit)) Limit
 
+-- 3: the tracked blocks
 abbrev pub trackedReason : Input → Reason
 trackedReason i = when (ltb 16 (length (i .tracked)) || not (once (i .tracked))) Tracked
 
+-- 4: the number of accesses
 abbrev pub accessesReason : Input → Reason
 accessesReason i = when (ltb 4096 (length (i .accesses))) Accesses
 
