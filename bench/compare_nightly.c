@@ -9,6 +9,7 @@
 #include "estimate.h"
 #include "inputs.h"
 #include "nightly.h"
+#include "plain.h"
 
 /* What rooms are filled with before a call; where a call writes nothing it is found again. */
 #define PATTERN_BYTE 0xa5
@@ -77,6 +78,16 @@ static bool add_graph(struct batch *batch, const struct number_list *numbers)
     return true;
 }
 
+/* An allowance: none, any, or one on which a budget turns, such as three quarters of the whole, or one unit less. */
+static uint64_t draw_allowance(struct generator *from)
+{
+    switch (draw_below(from, 3)) {
+    case 0: return 0;
+    case 1: return draw(from) >> (14 + draw_below(from, 48));
+    default: return (PLAIN_WHOLE >> (1 + draw_below(from, 8))) * (1 + draw_below(from, 3)) - draw_below(from, 2);
+    }
+}
+
 /* A few graphs, or about as many as there may be, most of them without numbers; with just enough room, more, or not enough; sometimes with a count changed. */
 static void make_batch(struct generator *from, struct batch *batch)
 {
@@ -96,7 +107,7 @@ static void make_batch(struct generator *from, struct batch *batch)
     if (batch->rows_words > 0 && draw_below(from, 8) == 0)
         batch->rows_words--;
     batch->work_words = draw_below(from, 8) == 0 ? ESTIMATE_NIGHTLY_WORDS - 1 : ESTIMATE_NIGHTLY_WORDS + draw_below(from, 9);
-    batch->allowance = draw_below(from, 3) == 0 ? 0 : draw(from) >> (14 + draw_below(from, 48));
+    batch->allowance = draw_allowance(from);
 }
 
 /* ---- The comparison ---- */
