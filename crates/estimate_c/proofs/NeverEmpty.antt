@@ -15,11 +15,12 @@ use Rattle.parts.specs.Parts.{complete, inputFrom}
 use Rattle.reading.specs.Reading.{wellFormed, numbersIn}
 use Rattle.writing.specs.Writing.{refusedLine}
 use Rattle.writing.specs.Told.{told, ofText}
-use Rattle.text.specs.Lines.{headWords}
+use Rattle.lines.specs.Lines.{headWords}
 use Rattle.text.specs.Choices.{plain}
 use Rattle.text.specs.Printed.{ofInput, ofNumbers}
 use Rattle.text.specs.Curve.{curve, curveOfNumbers, curveOfText}
-use Rattle.text.specs.Cycles.{longestLine, inCycles, cyclesOfNumbers, cyclesOfText}
+use Rattle.lines.specs.Cores.{longestLine}
+use Rattle.text.specs.Cycles.{inCycles, cyclesOfNumbers, cyclesOfText}
 
 refused-some : (n : ℕ) → 0 < length (refusedLine n)
 unfolding refusedLine

@@ -11,7 +11,7 @@ use questions::above_in;
 use questions::smallest_budget_in;
 use questions::smallest_cycles_in;
 use questions::spread_in;
-use questions::within;
+use quick::within;
 use recorder::Counted;
 use recorder::Reading;
 use recorder::list_damaged;

@@ -3,7 +3,6 @@
 use crate::sums::largest;
 use crate::sums::smallest;
 use crate::sums::units_above;
-use crate::table::is_table;
 use rules::Amount;
 use rules::Core;
 use rules::Refusal;
@@ -11,6 +10,7 @@ use rules::Time;
 use rules::Units;
 use rules::Verdict;
 use rules::core_at;
+use table_check::is_table;
 ghost use mathlib.Core.Path.{_≡_};
 ghost use Prim.Native.Nat.{_-_, _/_, _≤_, _<_};
 ghost use Rattle.rules.specs.declared.Verdict.the-variants.{Accepted};

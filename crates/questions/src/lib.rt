@@ -13,7 +13,6 @@ ghost use mathlib.Core.Path.{_≡_};
 ghost use lib.ListN.{take};
 ghost use Rattle.rules.specs.Questions.{aboveAnswer, budgetAnswer, spreadAnswer};
 ghost use Rattle.rules.specs.Cycles.{aboveCyclesAnswer, cycleBudgetAnswer};
-ghost use Rattle.rules.specs.Within.{isWithin};
 ghost use Rattle.words.specs.Tables.{tableOf};
 
 mod answers;
@@ -21,7 +20,6 @@ mod counts;
 mod cycles;
 mod states;
 mod sums;
-mod table;
 
 // The units above a budget: misses strictly greater.
 pub fn above_in(words: &[u64], states: usize, budget: u64) -> Amount
@@ -73,26 +71,4 @@ pub fn smallest_cycles_in(
 {
     let end = span(words.len(), states);
     cycle_budget_of(&words[..end], core, longest, units)
-}
-
-// A quick yes or no: whether the numbers of a spread, or of any row, at places above the budget sum to at most the allowance. They are added from
-// the top end downwards, up to the first that passes it. What is left of the allowance falls, so that no sum can wrap.
-pub fn within(spread: &[u64], budget: u64, allowance: u64) -> bool
-    ensures { λ r. ⌜ r ≡ isWithin (now (spread .entry)) budget allowance ⌝ }
-{
-    if spread.len() as u64 <= budget {
-        return true;
-    }
-    let first = budget as usize + 1;
-    let mut left = allowance;
-    let mut end = spread.len();
-    while first < end {
-        let units = spread[end - 1];
-        if left < units {
-            return false;
-        }
-        left -= units;
-        end -= 1;
-    }
-    true
 }

@@ -25,11 +25,12 @@ use Rattle.text.specs.declared.working.Wanted.{Wanted}
 use Rattle.text.specs.declared.working.Wanted.the-variants.{Misses, Cycles}
 use Rattle.text.specs.declared.working.Form.{Form}
 use Rattle.text.specs.declared.working.Form.the-variants.{Plain, Chosen}
-use Rattle.text.specs.Lines.{headWords, headLine, countLine, linesBelow, curveLine, curveLines}
+use Rattle.lines.specs.Lines.{headWords, headLine, countLine, linesBelow, curveLine, curveLines}
 use Rattle.text.specs.Printed.{ofInput, ofNumbers}
 use Rattle.text.specs.Choices.{plain, chooses, choiceIn, ofChosen, ofForm}
 use Rattle.text.specs.Curve.{curve}
-use Rattle.text.specs.Cycles.{longestLine, coreLine, cycleLine, coreLines, inCycles}
+use Rattle.lines.specs.Cores.{longestLine, coreLine, cycleLine, coreLines}
+use Rattle.text.specs.Cycles.{inCycles}
 use Rattle.text.specs.Rooms.{curveBytes, cyclesBytes}
 use Rattle.text.specs.Wanted.{wantedText, wantedBytes}
 

@@ -1,7 +1,3 @@
--- The lines of a curve, put one by one
-pub mod CurveLines
--- The lines of the cores
-pub mod CoreLines
 -- The lines of a table
 pub mod Lines
 -- How long the text is

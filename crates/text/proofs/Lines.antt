@@ -7,7 +7,7 @@ use Prim.Native.Nat.{ℕ, zero, suc, _+_, _-_, _*_, _≤_, _<_}
 use native.Mathlib.Nat.{le-of-eq, le-trans, zero-add}
 use native.Mathlib.Omega.{arith}
 use lib.ListN.{length, take, drop, drop-of-length-le}
-use lib.Seq.{drop-cons}
+use lib.Seq.{drop-cons, take-all}
 use Rattle.basics.specs.Sums.{sumOver}
 use Rattle.basics.proofs.Sums.{sum-append}
 use Rattle.rules.specs.declared.Core.{Core}
@@ -24,9 +24,9 @@ use Rattle.rules.specs.Cycles.{cores, coreAt}
 use Rattle.rules.proofs.Refusals.{numbered}
 use Rattle.rules.proofs.Questions.{table-largest, length-counts, counts-at, counts-take, counts-above, table-total, spread-answered}
 use Rattle.rules.proofs.Cycles.{miss-above-hit, cycles-are, above-cycles-at}
-use Rattle.text.specs.Lines.{countLine, linesBelow, curveLine, curveLines}
-use Rattle.text.specs.Cycles.{coreLine, cycleLine, coreLines}
-use Rattle.text.specs.Counts.{countLines, coreCounts}
+use Rattle.lines.specs.Lines.{countLine, linesBelow, curveLine, curveLines}
+use Rattle.lines.specs.Cores.{coreLine, cycleLine, coreLines}
+use Rattle.lines.specs.Counts.{countLines, coreCounts}
 use Rattle.text.specs.Working.{Counted}
 
 -- the same lines for each number below n
@@ -95,11 +95,6 @@ module _ (T : List State) (full : total T ≡ whole) where
       lines-spread (cycleLine c L T) (L * c .hit) (c .miss - c .hit)
       (λ k l. ap₂ (λ (m v : ℕ). countLine m (unitsAt k T) v) (cycles-are c d L k (le-trans l inside)) (above-cycles-at c d L k T (le-trans l inside) inside))
 
-  -- the spread is all of WHOLE
-  spread-whole : sumOver (λ n. n) (spread T) ≤ whole
-  unfolding spreadAny
-  spread-whole = omega (arith, counts-above (largest T) T)
-
 -- ---- the spread of a table, as the question answers it
 
 module _ (T : List State) (good : isTable T ≡ true) (room : List ℕ) (long : 4097 ≤ length room) (a : Count) (ns : List ℕ)
@@ -129,17 +124,19 @@ pub counted-long : (T : List State) (n : ℕ) (ns : List ℕ) → Counted T n ns
 unfolding spreadAny
 counted-long T n ns found = found .count ∙ sym (ap length (found .spread) ∙ length-counts (suc (largest T)) T)
 
--- and its lines
-pub counted-lines : (T : List State) (n : ℕ) (ns : List ℕ) → isTable T ≡ true → Counted T n ns → countLines 0 1 0 whole (take n ns) ≡ curveLines T
-counted-lines T n ns good found = ap (countLines 0 1 0 whole) (found .spread) ∙ curve-spread T (table-total T good)
+-- there are no more than a curve can have
+counted-few : (T : List State) (n : ℕ) (ns : List ℕ) → isTable T ≡ true → Counted T n ns → take 4097 (take n ns) ≡ spread T
+counted-few T n ns good found =
+    take-all 4097 (take n ns) (omega (arith, counted-long T n ns found, found .count, table-largest T good)) ∙ found .spread
+
+-- and their lines
+pub counted-lines : (T : List State) (n : ℕ) (ns : List ℕ) → isTable T ≡ true → Counted T n ns → countLines 0 1 0 whole (take 4097 (take n ns)) ≡ curveLines T
+counted-lines T n ns good found = ap (countLines 0 1 0 whole) (counted-few T n ns good found) ∙ curve-spread T (table-total T good)
 
 pub counted-cores : (T : List State) (n : ℕ) (ns : List ℕ) → isTable T ≡ true → Counted T n ns → (L : ℕ) → largest T ≤ L
-    → linesBelow (coreCounts L (take n ns)) 12 ≡ linesBelow (coreLines L T) (length cores)
+    → linesBelow (coreCounts L (take 4097 (take n ns))) 12 ≡ linesBelow (coreLines L T) (length cores)
 unfolding coreCounts coreLines cores
 counted-cores T n ns good found L inside =
-    lines-alike (coreCounts L (take n ns)) (coreLines L T) 12
-    (λ k l. ap (λ (us : List ℕ). coreLine k (coreAt k) ++ countLines (L * coreAt k .hit) (coreAt k .miss - coreAt k .hit) 0 whole us) (found .spread)
+    lines-alike (coreCounts L (take 4097 (take n ns))) (coreLines L T) 12
+    (λ k l. ap (λ (us : List ℕ). coreLine k (coreAt k) ++ countLines (L * coreAt k .hit) (coreAt k .miss - coreAt k .hit) 0 whole us) (counted-few T n ns good found)
     ∙ ap (λ (t : List ℕ). coreLine k (coreAt k) ++ t) (cycles-spread T (table-total T good) (coreAt k) (miss-above-hit k l) L inside))
-
-pub counted-whole : (T : List State) (n : ℕ) (ns : List ℕ) → isTable T ≡ true → Counted T n ns → sumOver (λ n. n) (take n ns) ≤ whole
-counted-whole T n ns good found = rw (found .spread) (spread-whole T (table-total T good))

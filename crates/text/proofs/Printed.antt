@@ -28,10 +28,11 @@ use Rattle.parts.specs.Call.{numbersOutcome}
 use Rattle.parts.proofs.Calls.{Called, worked-complete, worked-accepted, worked-says, worked-table, table-there}
 use Rattle.writing.specs.Writing.{refusedLine}
 use Rattle.writing.specs.Told.{told, accepts}
-use Rattle.text.specs.Lines.{headLine, linesBelow, curveLines}
+use Rattle.lines.specs.Lines.{headLine, linesBelow, curveLines}
 use Rattle.text.specs.Printed.{ofInput, ofNumbers, numbersWorked}
 use Rattle.text.specs.Curve.{curve}
-use Rattle.text.specs.Cycles.{longestLine, coreLines, inCycles}
+use Rattle.lines.specs.Cores.{longestLine, coreLines}
+use Rattle.text.specs.Cycles.{inCycles}
 use Rattle.text.specs.Working.{Finishes}
 
 -- ---- what the graph call answers, and what is told of the input

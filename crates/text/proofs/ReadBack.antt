@@ -15,7 +15,7 @@ use Rattle.rules.proofs.Questions.{units-most, above-most, table-total, table-l
 use Rattle.reading.specs.Reading.{valueFrom, wordsFrom}
 use Rattle.writing.specs.Writing.{decimal}
 use Rattle.writing.proofs.ReadBack.{word-decimal, values-read}
-use Rattle.text.specs.Lines.{countLine, linesBelow, curveLine, curveLines}
+use Rattle.lines.specs.Lines.{countLine, linesBelow, curveLine, curveLines}
 use Rattle.text.specs.Numbers.{triples, seconds}
 
 -- ---- the words of a curve's lines: of one line, of those below m, and of all

@@ -5,7 +5,7 @@ use lib.ListN.{length}
 use Rattle.rules.specs.Input.{Input}
 use Rattle.rules.specs.Graph.{finished}
 use Rattle.writing.specs.Told.{ofText}
-use Rattle.text.specs.Lines.{headLine, curveLines}
+use Rattle.lines.specs.Lines.{headLine, curveLines}
 use Rattle.text.specs.Printed.{ofNumbers}
 use Rattle.text.specs.Choices.{plain, ofChosen}
 

@@ -1,8 +1,4 @@
--- The lines of a curve
-pub mod Lines
--- they from the units at each miss count
-pub mod Counts
--- the numbers that they say
+-- The numbers that a curve says
 pub mod Numbers
 -- What is printed, or refused
 pub mod Printed

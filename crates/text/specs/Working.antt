@@ -16,10 +16,11 @@ use Rattle.parts.specs.declared.Choice.{Choice}
 use Rattle.parts.specs.Parts.{complete, inputFrom}
 use Rattle.writing.specs.Put.{Put}
 use Rattle.writing.specs.Told.{zeroIf}
-use Rattle.text.specs.Lines.{headLine, linesBelow, curveLines}
+use Rattle.lines.specs.Lines.{headLine, linesBelow, curveLines}
 use Rattle.text.specs.Printed.{ofNumbers}
 use Rattle.text.specs.Curve.{curve}
-use Rattle.text.specs.Cycles.{longestLine, coreLines, inCycles}
+use Rattle.lines.specs.Cores.{longestLine, coreLines}
+use Rattle.text.specs.Cycles.{inCycles}
 use Rattle.text.specs.Rooms.{Rooms}
 
 -- the spread of the table T stands at the front of the counts, n numbers

@@ -10,8 +10,6 @@ ghost use mathlib.Core.Path.{_≡_};
 ghost use Rattle.text.specs.Rooms.{afterNumbers, afterText, afterCyclesOfNumbers, afterCyclesOfText, afterChosenText, afterCyclesOfChosenText};
 ghost use Rattle.text.specs.Wanted.{wantedAfter, wantedAfterText};
 
-mod cores;
-mod curves;
 mod working;
 
 // The curve's text for numbers in the curve's order, at the front of `output`. What was worked in is zero then; a refusal, which is a text too, leaves it as it was.

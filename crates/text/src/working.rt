@@ -1,8 +1,8 @@
 // From the numbers to the text: the graph call, the questions, and the lines that they give.
-use crate::cores::put_cores;
-use crate::curves::put_head;
-use crate::curves::put_lines;
-use crate::curves::put_longest;
+use lines::put_cores;
+use lines::put_counts;
+use lines::put_head;
+use lines::put_longest;
 use parts::Choice;
 use parts::analyse_numbers;
 use parts::longest_of_numbers;
@@ -30,9 +30,9 @@ ghost use Rattle.words.specs.Tables.{tableOf};
 ghost use Rattle.parts.specs.Parts.{complete, inputFrom};
 ghost use Rattle.writing.specs.Put.{Put};
 ghost use Rattle.writing.specs.Told.{ofText, textWorked};
-ghost use Rattle.text.specs.Lines.{headLine, curveLines, linesBelow};
+ghost use Rattle.lines.specs.Lines.{headLine, curveLines, linesBelow};
 ghost use Rattle.text.specs.Printed.{ofNumbers, numbersWorked};
-ghost use Rattle.text.specs.Cycles.{longestLine, coreLines};
+ghost use Rattle.lines.specs.Cores.{longestLine, coreLines};
 ghost use Rattle.text.specs.Choices.{startOf, ofChosen, chosenWorked, ofForm, formWorked};
 ghost use Rattle.text.specs.Rooms.{longEnough};
 ghost use Rattle.text.specs.Working.{Counted, Finishes, Wrote};
@@ -85,7 +85,7 @@ pub(crate) fn put_curve(
 {
     let head = put_head(output, states as u64, aside.0);
     let n = count_all(result, states, counts);
-    put_lines(output, head, &counts[..n], 0, 1)
+    put_counts(output, head, &counts[..n])
 }
 
 // The curves in cycles of the same table, where the longest path has `longest` accesses.
@@ -102,7 +102,7 @@ pub(crate) fn put_cycles(
 {
     let head = put_longest(output, states as u64, aside.0, longest);
     let n = count_all(result, states, counts);
-    put_cores(output, head, &counts[..n], longest)
+    put_cores(output, head, &counts[..n], longest as u32)
 }
 
 // The text that is wanted, for the same numbers, where the call has left a table of `states` states in the result room.

@@ -10,7 +10,9 @@ use crate::expected::units_above;
 use crate::numbers::HALF;
 use crate::numbers::RARE;
 use crate::numbers::WHOLE;
+use crate::numbers::say_number;
 use crate::report::Report;
+use crate::rooms::first;
 use crate::rooms::is_marked;
 use crate::rooms::mark;
 use crate::said::amount_said;
@@ -20,30 +22,34 @@ use questions::above_in;
 use questions::smallest_budget_in;
 use questions::spread_in;
 
-// The spread into `room`.
+// The spread, in room for so many words.
 pub(crate) fn spread(
     result: &[u64],
     n: usize,
-    room: &mut [u64],
+    words: u64,
     states: &[u64],
     report: Report,
 ) -> Report {
+    let mut longest: [u64; 4100] = [0; 4100];
+    let room = first(&mut longest, words);
     mark(room);
     let said = count_said(spread_in(result, n, room));
-    let passed = report.compared(said.refusal == 0);
-    passed
+    report
+        .compared(said.refusal == 0)
         .compared(said.value == last_count(states))
         .compared(has_counts(room, states))
 }
 
-// The spread is refused with `refusal`, and the room is as it was.
+// The spread in room for so many words is refused with `refusal`, and the room is as it was.
 pub(crate) fn no_spread(
     result: &[u64],
     n: usize,
-    room: &mut [u64],
+    words: u64,
     refusal: u64,
     report: Report,
 ) -> Report {
+    let mut longest: [u64; 4100] = [0; 4100];
+    let room = first(&mut longest, words);
     mark(room);
     let said = count_said(spread_in(result, n, room));
     report
@@ -91,39 +97,26 @@ fn each_budget(result: &[u64], n: usize, end: u64, states: &[u64], report: Repor
     all
 }
 
-// Every question that can be put to the table of these states, in a room of exactly the length that is needed, one shorter, and longer.
+// Every question that can be put to the table of these states; the spread in room for exactly as many words as are needed, for one less, and for `more`.
 pub(crate) fn every_question(
     result: &[u64],
     n: usize,
-    room: &mut [u64],
+    more: u64,
     states: &[u64],
     report: Report,
 ) -> Report {
     let last = last_count(states);
-    if 4096 < last {
-        return report.compared(false);
-    }
-    let end = (last + 1) as usize;
-    if room.len() <= end {
-        return report.compared(false);
-    }
-    let long = spread(result, n, room, states, report);
-    let exact = spread(result, n, &mut room[0..end], states, long);
-    let short = no_spread(result, n, &mut room[0..end - 1], 8, exact);
-    let budgets = each_budget(result, n, last + 2, states, short);
-    above(
-        result,
-        n,
-        MOST,
-        states,
-        budget(result, n, MOST, states, budgets),
-    )
+    let long = spread(result, n, more, states, report);
+    let exact = spread(result, n, plus(last, 1), states, long);
+    let short = no_spread(result, n, last, 8, exact);
+    let budgets = each_budget(result, n, plus(last, 2), states, short);
+    let most = budget(result, n, MOST, states, budgets);
+    above(result, n, MOST, states, most)
 }
 
 // The answers, in three lines.
 fn say_budget(result: &[u64], n: usize, units: u64) {
-    io::write_all(1, b" ");
-    io::print_decimal(1, count_said(smallest_budget_in(result, n, units)).value);
+    say_number(count_said(smallest_budget_in(result, n, units)).value);
 }
 
 fn say_budgets(name: &[u8], result: &[u64], n: usize) {
@@ -138,8 +131,7 @@ fn say_budgets(name: &[u8], result: &[u64], n: usize) {
 }
 
 fn say_units_above(result: &[u64], n: usize, budget: u64) {
-    io::write_all(1, b" ");
-    io::print_decimal(1, amount_said(above_in(result, n, budget)).value);
+    say_number(amount_said(above_in(result, n, budget)).value);
 }
 
 fn say_above(name: &[u8], result: &[u64], n: usize, last: u64) {
@@ -160,8 +152,7 @@ fn say_spread(name: &[u8], room: &[u64], last: u64) {
     let mut i: usize = 0;
     while i < room.len() {
         if i as u64 <= last {
-            io::write_all(1, b" ");
-            io::print_decimal(1, room[i]);
+            say_number(room[i]);
         }
         i += 1;
     }
@@ -187,7 +178,6 @@ pub(crate) fn ask_case(
 ) -> Report {
     say_answers(name, result, n);
     say_cycles(name, result, n, longest);
-    let mut room: [u64; 10] = [0; 10];
-    let asked = every_question(result, n, &mut room, states, report);
+    let asked = every_question(result, n, 10, states, report);
     every_core(result, n, longest, 0, plus(longest, 1), states, asked)
 }

@@ -4,7 +4,7 @@
 //     floor NAME | .. | answer | states | units at each miss count | units at each hit count
 //
 // where a state is exact/mask/misses/hits/units, with 1 for an exact one and 0 for an open one.
-use crate::lines::begin;
+use crate::lines::field_of;
 use crate::lines::number;
 use crate::numbers::say;
 use crate::numbers::say_answer;
@@ -39,41 +39,26 @@ fn behind(most: u64) -> usize {
     most as usize + 1
 }
 
-// The numbers of a field.
-fn compare_field(
-    line: &[u64],
-    field: usize,
-    room: &[u64],
-    counts: usize,
-    report: Report,
-) -> Report {
-    if 14 < field {
-        return report.compared(false);
-    }
-    let from = begin(line, field);
-    let end = begin(line, field + 1);
-    if end < from {
-        return report.compared(false);
-    }
+// The numbers of a field: `counts` of them, and the rest of the room is zero.
+fn compare_field(numbers: &[u64], room: &[u64], counts: usize, report: Report) -> Report {
     report
-        .compared(counts == end - from)
-        .compared(has_only(room, &line[from..end]))
+        .compared(counts == numbers.len())
+        .compared(has_only(room, numbers))
 }
 
-// The spreads: of misses in field 9, of hits in field 10; the rest of the room is zero.
+// The spreads: of misses in field 9, of hits in field 10.
 fn compare_spreads(table: &[u64], states: usize, line: &[u64], report: Report) -> Report {
     let mut room: [u64; 12] = [0; 12];
     mark(&mut room);
     let misses = counts_of_misses(miss_spread_in(table, states, &mut room));
-    let held = compare_field(line, 9, &room, misses, report);
+    let held = compare_field(field_of(line, 9), &room, misses, report);
     mark(&mut room);
     let hits = counts_of_hits(hit_spread_in(table, states, &mut room));
-    compare_field(line, 10, &room, hits, held)
+    compare_field(field_of(line, 10), &room, hits, held)
 }
 
 // What the call gave is compared, `refusal` being its number and `states` how many states there are.
 pub(crate) fn compare_floor(
-    name: &[u8],
     refusal: u64,
     states: usize,
     line: &[u64],
@@ -83,16 +68,14 @@ pub(crate) fn compare_floor(
 ) -> Report {
     let answered = report.compared(refusal == number(line, 7, 0));
     if refusal != 0 {
-        say_answer(b"best case: ", name, refusal);
+        say_answer(refusal);
         return answered
             .compared(is_marked(result))
             .compared(is_marked(work));
     }
-    io::write_all(1, b"best case: ");
-    io::write_all(1, name);
     say(b": states ", states as u64);
     let cleared = answered.compared(has_only(work, &[]));
-    let table = compare_field(line, 8, result, times_five(states), cleared);
+    let table = compare_field(field_of(line, 8), result, times_five(states), cleared);
     compare_spreads(result, states, line, table)
 }
 

@@ -7,13 +7,14 @@
 use crate::asked::ask_case;
 use crate::floors::compare_floor;
 use crate::lines::count;
-use crate::lines::list;
 use crate::lines::number;
+use crate::lines::numbers_of;
 use crate::lines::small;
 use crate::numbers::say;
 use crate::numbers::say_answer;
 use crate::numbers::say_states;
 use crate::report::Report;
+use crate::rooms::first;
 use crate::rooms::has_only;
 use crate::rooms::is_marked;
 use crate::rooms::mark;
@@ -127,117 +128,17 @@ fn both(
     )
 }
 
-// The lists are read one after the other: the edges are the last.
-fn with_edges(
-    kind: u8,
-    line: &[u64],
-    tracked: &[u32],
-    runs: &[u32],
-    accesses: &[u32],
-    edges: &mut [u32],
-    result: &mut [u64],
-    work: &mut [u64],
-) -> Got {
-    let n = list(line, 5, edges);
-    both(
-        kind,
-        line,
-        tracked,
-        runs,
-        accesses,
-        &edges[0..n],
-        result,
-        work,
-    )
-}
-
-fn with_accesses(
-    kind: u8,
-    line: &[u64],
-    tracked: &[u32],
-    runs: &[u32],
-    accesses: &mut [u32],
-    edges: &mut [u32],
-    result: &mut [u64],
-    work: &mut [u64],
-) -> Got {
-    let n = list(line, 4, accesses);
-    with_edges(
-        kind,
-        line,
-        tracked,
-        runs,
-        &accesses[0..n],
-        edges,
-        result,
-        work,
-    )
-}
-
-fn with_runs(
-    kind: u8,
-    line: &[u64],
-    tracked: &[u32],
-    runs: &mut [u32],
-    accesses: &mut [u32],
-    edges: &mut [u32],
-    result: &mut [u64],
-    work: &mut [u64],
-) -> Got {
-    let n = list(line, 3, runs);
-    with_accesses(
-        kind,
-        line,
-        tracked,
-        &runs[0..n],
-        accesses,
-        edges,
-        result,
-        work,
-    )
-}
-
-fn with_tracked(
-    kind: u8,
-    line: &[u64],
-    tracked: &mut [u32],
-    runs: &mut [u32],
-    accesses: &mut [u32],
-    edges: &mut [u32],
-    result: &mut [u64],
-    work: &mut [u64],
-) -> Got {
-    let n = list(line, 2, tracked);
-    with_runs(
-        kind,
-        line,
-        &tracked[0..n],
-        runs,
-        accesses,
-        edges,
-        result,
-        work,
-    )
-}
-
-// Both calls on the numbers of a line, in rooms whose words are known.
+// Both calls on the lists of a line.
 fn called(kind: u8, line: &[u64], result: &mut [u64], work: &mut [u64]) -> Got {
-    let mut tracked: [u32; 32] = [0; 32];
-    let mut runs: [u32; 128] = [0; 128];
-    let mut accesses: [u32; 4100] = [0; 4100];
-    let mut edges: [u32; 256] = [0; 256];
-    mark(result);
-    mark(work);
-    with_tracked(
-        kind,
-        line,
-        &mut tracked,
-        &mut runs,
-        &mut accesses,
-        &mut edges,
-        result,
-        work,
-    )
+    let mut block_room: [u32; 32] = [0; 32];
+    let mut run_room: [u32; 128] = [0; 128];
+    let mut access_room: [u32; 4100] = [0; 4100];
+    let mut edge_room: [u32; 256] = [0; 256];
+    let tracked = numbers_of(line, 2, &mut block_room);
+    let runs = numbers_of(line, 3, &mut run_room);
+    let accesses = numbers_of(line, 4, &mut access_room);
+    let edges = numbers_of(line, 5, &mut edge_room);
+    both(kind, line, tracked, runs, accesses, edges, result, work)
 }
 
 // What the longest path has to answer where the graph call answers `refusal`. It is lent no room, so 6 does not apply. In every input of
@@ -287,9 +188,7 @@ fn say_case(name: &[u8], got: Got, result: &[u64], states: &[u64], report: Repor
 }
 
 // The longest path alone.
-fn compare_path(name: &[u8], said: Said, accesses: u64, report: Report) -> Report {
-    io::write_all(1, b"longest path: ");
-    io::write_all(1, name);
+fn compare_path(said: Said, accesses: u64, report: Report) -> Report {
     say(b": ", said.value);
     report
         .compared(said.refusal == 0)
@@ -309,7 +208,7 @@ fn compare(
 ) -> Report {
     let answer = number(line, 7, 0);
     if kind == b'p' {
-        return compare_path(name, got.longest, answer, report);
+        return compare_path(got.longest, answer, report);
     }
     let aside = number(line, 7, 1);
     let paths = compare_longest(got.longest, answer, count(line, 4), report);
@@ -317,14 +216,14 @@ fn compare(
         let asked = say_case(name, got, result, states, paths);
         return compare_table(got, result, work, states, aside, asked);
     }
-    say_answer(b"refusals: ", name, got.refusal);
+    say_answer(got.refusal);
     if answer == 0 {
         return compare_table(got, result, work, states, aside, paths);
     }
     compare_refusal(got, result, work, answer, paths)
 }
 
-// A line in these rooms.
+// A line in these rooms, whose words are known.
 fn graph_in(
     kind: u8,
     name: &[u8],
@@ -335,45 +234,19 @@ fn graph_in(
 ) -> Report {
     let got = called(kind, line, result, work);
     if kind == b'f' {
-        return compare_floor(name, got.refusal, got.states, line, result, work, report);
+        return compare_floor(got.refusal, got.states, line, result, work, report);
     }
     let mut words: [u64; 320] = [0; 320];
-    let end = states_of(line, &mut words);
-    if 320 < end {
-        return report.compared(false);
-    }
-    compare(kind, name, got, line, result, work, &words[0..end], report)
-}
-
-// A line in the first words of two rooms.
-fn graph_within(
-    kind: u8,
-    name: &[u8],
-    line: &[u64],
-    result: &mut [u64],
-    work: &mut [u64],
-    report: Report,
-) -> Report {
-    let result_end = number(line, 6, 0) as usize;
-    let work_end = number(line, 6, 1) as usize;
-    if result.len() < result_end {
-        return report.compared(false);
-    }
-    if work.len() < work_end {
-        return report.compared(false);
-    }
-    graph_in(
-        kind,
-        name,
-        line,
-        &mut result[0..result_end],
-        &mut work[0..work_end],
-        report,
-    )
+    let states = states_of(line, &mut words);
+    compare(kind, name, got, line, result, work, states, report)
 }
 
 pub(crate) fn graph_line(kind: u8, name: &[u8], line: &[u64], report: Report) -> Report {
-    let mut result: [u64; 328] = [0; 328];
-    let mut work: [u64; 25932] = [0; 25932];
-    graph_within(kind, name, line, &mut result, &mut work, report)
+    let mut result_room: [u64; 328] = [0; 328];
+    let mut work_room: [u64; 25932] = [0; 25932];
+    let result = first(&mut result_room, number(line, 6, 0));
+    let work = first(&mut work_room, number(line, 6, 1));
+    mark(result);
+    mark(work);
+    graph_in(kind, name, line, result, work, report)
 }

@@ -162,7 +162,7 @@ pub(crate) fn read_fields(text: &[u8], from: usize, end: usize, room: &mut [u64]
 }
 
 // Where a field begins.
-pub(crate) fn begin(line: &[u64], field: usize) -> usize
+fn begin(line: &[u64], field: usize) -> usize
     ensures { λ r. ⌜ r ≤ length (now (line .entry)) ⌝ }
 {
     if line.len() <= field {
@@ -175,32 +175,35 @@ pub(crate) fn begin(line: &[u64], field: usize) -> usize
     at
 }
 
-// The number at place `i` of a field, and 0 past the field's end.
-pub(crate) fn number(line: &[u64], field: usize, i: usize) -> u64 {
-    if count(line, field) <= i {
-        return 0;
+// The numbers of a field; none where it is not there.
+pub(crate) fn field_of<'a>(line: &'a [u64], field: usize) -> &'a [u64] {
+    if 14 < field {
+        return &line[0..0];
     }
     let from = begin(line, field);
-    if line.len() - from <= i {
+    let end = begin(line, field + 1);
+    if end < from {
+        return &line[0..0];
+    }
+    &line[from..end]
+}
+
+// The number at place `i` of a field, and 0 past the field's end.
+pub(crate) fn number(line: &[u64], field: usize, i: usize) -> u64 {
+    let numbers = field_of(line, field);
+    if numbers.len() <= i {
         return 0;
     }
-    line[from + i]
+    numbers[i]
 }
 
 // How many numbers a field has.
 pub(crate) fn count(line: &[u64], field: usize) -> usize {
-    if 14 < field {
-        return 0;
-    }
-    let from = begin(line, field);
-    let end = begin(line, field + 1);
-    if end <= from {
-        return 0;
-    }
-    end - from
+    let numbers = field_of(line, field);
+    numbers.len()
 }
 
-// The same as 32 bits; the largest number stands for one that does not fit.
+// A number as 32 bits; the largest number stands for one that does not fit.
 pub(crate) fn small(n: u64) -> u32 {
     if 4294967295 < n {
         return 4294967295;
@@ -209,7 +212,7 @@ pub(crate) fn small(n: u64) -> u32 {
 }
 
 // The numbers of a field, at the front of a list; and how many there are, at most as many as the list can hold.
-pub(crate) fn list(line: &[u64], field: usize, list: &mut [u32]) -> usize
+fn list(line: &[u64], field: usize, list: &mut [u32]) -> usize
     ensures { λ r. ⌜ r ≤ length (now (list .exit)) ⌝ }
 {
     let n = count(line, field);
@@ -222,4 +225,10 @@ pub(crate) fn list(line: &[u64], field: usize, list: &mut [u32]) -> usize
         i += 1;
     }
     i
+}
+
+// The numbers of a field as 32 bits, in the room that is lent: as many as it can hold.
+pub(crate) fn numbers_of<'a>(line: &[u64], field: usize, room: &'a mut [u32]) -> &'a mut [u32] {
+    let n = list(line, field, room);
+    &mut room[0..n]
 }

@@ -4,14 +4,14 @@
 //
 // where the answer is 0 or the number of a refusal. Before the call every number of the rooms is 7, and after it every one of them is compared.
 use crate::lines::count;
-use crate::lines::list;
 use crate::lines::number;
+use crate::lines::numbers_of;
 use crate::lines::small;
 use crate::numbers::say;
 use crate::report::Report;
+use crate::rooms::first_numbers;
 use listing::Expansion;
 use listing::expand;
-ghost use Prim.Native.Nat.{_≤_};
 
 // What a call answered, in numbers: a refusal's number and nothing else, or 0 and how many nodes, accesses and edges there are.
 struct Size {
@@ -38,9 +38,7 @@ fn size_said(answer: Expansion) -> Size {
     }
 }
 
-fn say_size(name: &[u8], size: Size) {
-    io::write_all(1, b"listing: ");
-    io::write_all(1, name);
+fn say_size(size: Size) {
     if size.refusal != 0 {
         say(b" gives ", size.refusal);
         return;
@@ -53,15 +51,10 @@ fn say_size(name: &[u8], size: Size) {
 }
 
 // The call on the tokens of a line.
-fn expanded(
-    line: &[u64],
-    tokens: &mut [u32],
-    runs: &mut [u32],
-    accesses: &mut [u32],
-    edges: &mut [u32],
-) -> Size {
-    let n = list(line, 3, tokens);
-    size_said(expand(&tokens[0..n], runs, accesses, edges))
+fn expanded(line: &[u64], runs: &mut [u32], accesses: &mut [u32], edges: &mut [u32]) -> Size {
+    let mut token_room: [u32; 64] = [0; 64];
+    let tokens = numbers_of(line, 3, &mut token_room);
+    size_said(expand(tokens, runs, accesses, edges))
 }
 
 // The number at place `at` of a field, and `rest` past its end.
@@ -73,7 +66,7 @@ fn number_or(line: &[u64], field: usize, at: usize, rest: u32) -> u32 {
 }
 
 // Whether the room begins with the numbers of a field, and from there to its end every number is `rest`.
-fn holds(line: &[u64], field: usize, room: &[u32], rest: u32) -> bool {
+pub(crate) fn holds(line: &[u64], field: usize, room: &[u32], rest: u32) -> bool {
     if room.len() < count(line, field) {
         return false;
     }
@@ -87,8 +80,8 @@ fn holds(line: &[u64], field: usize, room: &[u32], rest: u32) -> bool {
     true
 }
 
-// What is behind the graph: zeros; or what stood in the room before, after a refusal.
-fn rest_of(refusal: u64) -> u32 {
+// What is behind the numbers that a call leaves: zeros; or what stood in the room before, after a refusal.
+pub(crate) fn rest_of(refusal: u64) -> u32 {
     if refusal == 0 {
         return 0;
     }
@@ -115,45 +108,14 @@ fn compare(
         .compared(holds(line, 6, edges, rest))
 }
 
-// A line in these rooms.
-fn listing_in(
-    name: &[u8],
-    line: &[u64],
-    runs: &mut [u32],
-    accesses: &mut [u32],
-    edges: &mut [u32],
-    report: Report,
-) -> Report {
-    let mut tokens: [u32; 64] = [0; 64];
-    let size = expanded(line, &mut tokens, runs, accesses, edges);
-    say_size(name, size);
+pub(crate) fn listing_line(line: &[u64], report: Report) -> Report {
+    let mut run_room: [u32; 65] = [7; 65];
+    let mut access_room: [u32; 4097] = [7; 4097];
+    let mut edge_room: [u32; 4033] = [7; 4033];
+    let runs = first_numbers(&mut run_room, number(line, 1, 0));
+    let accesses = first_numbers(&mut access_room, number(line, 1, 1));
+    let edges = first_numbers(&mut edge_room, number(line, 1, 2));
+    let size = expanded(line, runs, accesses, edges);
+    say_size(size);
     compare(line, size, runs, accesses, edges, report)
-}
-
-// How many numbers of a room are lent, of which there are `most`.
-fn lent(line: &[u64], room: usize, most: usize) -> usize
-    ensures { λ r. ⌜ r ≤ most ⌝ }
-{
-    let n = number(line, 1, room) as usize;
-    if most < n {
-        return 0;
-    }
-    n
-}
-
-pub(crate) fn listing_line(name: &[u8], line: &[u64], report: Report) -> Report {
-    let mut runs: [u32; 65] = [7; 65];
-    let mut accesses: [u32; 4097] = [7; 4097];
-    let mut edges: [u32; 4033] = [7; 4033];
-    let a = lent(line, 0, 65);
-    let b = lent(line, 1, 4097);
-    let c = lent(line, 2, 4033);
-    listing_in(
-        name,
-        line,
-        &mut runs[0..a],
-        &mut accesses[0..b],
-        &mut edges[0..c],
-        report,
-    )
 }

@@ -16,14 +16,17 @@ pub(crate) fn say(words: &[u8], n: u64) {
 }
 
 // What a call answered, in words.
-pub(crate) fn say_answer(part: &[u8], name: &[u8], refusal: u64) {
-    io::write_all(1, part);
-    io::write_all(1, name);
+pub(crate) fn say_answer(refusal: u64) {
     if refusal == 0 {
         io::write_all(1, b" passes\n");
         return;
     }
     say(b" gives ", refusal);
+}
+
+pub(crate) fn say_number(n: u64) {
+    io::write_all(1, b" ");
+    io::print_decimal(1, n);
 }
 
 // One state, as mask/misses/units.

@@ -47,3 +47,29 @@ pub(crate) fn has_only(room: &[u64], words: &[u64]) -> bool {
     }
     true
 }
+
+// Whether a room is as a call leaves it that answers `answer`: `words` and zeros behind them, or after a refusal what stood there.
+pub(crate) fn is_left(answer: u64, room: &[u64], words: &[u64]) -> bool {
+    if answer == 0 {
+        return has_only(room, words);
+    }
+    is_marked(room)
+}
+
+// The first `n` words of a room, and none where it has fewer: a line that asks for more is compared in no room at all.
+pub(crate) fn first<'a>(room: &'a mut [u64], n: u64) -> &'a mut [u64] {
+    let end = n as usize;
+    if room.len() < end {
+        return &mut room[0..0];
+    }
+    &mut room[0..end]
+}
+
+// The same of 32 bits.
+pub(crate) fn first_numbers<'a>(room: &'a mut [u32], n: u64) -> &'a mut [u32] {
+    let end = n as usize;
+    if room.len() < end {
+        return &mut room[0..0];
+    }
+    &mut room[0..end]
+}

@@ -2,15 +2,11 @@
 use crate::numbers::HALF;
 use crate::numbers::RARE;
 use crate::numbers::say;
+use crate::numbers::say_number;
 use crate::said::amount_said;
 use crate::said::time_said;
 use questions::above_cycles_in;
 use questions::smallest_cycles_in;
-
-fn say_number(n: u64) {
-    io::write_all(1, b" ");
-    io::print_decimal(1, n);
-}
 
 // The units above a cycle budget.
 fn say_above(name: &[u8], words: &[u64], n: usize, longest: u64, budget: u64) {

@@ -3,6 +3,7 @@
 use crate::lines::count;
 use crate::lines::number;
 use crate::lines::put;
+use crate::rooms::first;
 
 // The field that has them.
 const STATES: usize = 8;
@@ -69,16 +70,16 @@ fn put_states(line: &[u64], sets: usize, words: &mut [u64], n: usize) {
     }
 }
 
-// The states of a line at the front of `words`; how many words they are.
-pub(crate) fn states_of(line: &[u64], words: &mut [u64]) -> usize {
+// The states of a line, in the words that are lent; none where they are no states of so many sets, or too many.
+pub(crate) fn states_of<'a>(line: &[u64], words: &'a mut [u64]) -> &'a mut [u64] {
     let sets = number(line, 1, 0);
     if 16 < sets {
-        return 0;
+        return first(words, 0);
     }
     let n = count(line, STATES) / (3 + sets as usize);
     if 64 < n {
-        return 0;
+        return first(words, 0);
     }
     put_states(line, sets as usize, words, n);
-    n * 5
+    first(words, n as u64 * 5)
 }

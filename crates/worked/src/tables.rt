@@ -14,12 +14,12 @@ use crate::cycles::every_core;
 use crate::cycles::refused;
 use crate::expected::last_count;
 use crate::expected::plus;
-use crate::lines::begin;
 use crate::lines::count;
 use crate::lines::number;
 use crate::numbers::say;
 use crate::numbers::say_answer;
 use crate::report::Report;
+use crate::rooms::first;
 use crate::said::amount_said;
 use crate::said::count_said;
 use crate::said::time_said;
@@ -53,32 +53,31 @@ fn row_in_cycles(words: &[u64], n: usize, report: Report) -> Report {
 }
 
 // Every question about the first `n` states of `words` is refused with 7, in long room and in none.
-fn row_refused(words: &[u64], n: usize, room: &mut [u64], report: Report) -> Report {
+fn row_refused(words: &[u64], n: usize, report: Report) -> Report {
     let units = amount_said(above_in(words, n, 0));
     let misses = count_said(smallest_budget_in(words, n, 0));
     let asked = report
         .compared(units.refusal == 7)
         .compared(misses.refusal == 7);
     let cycles = row_in_cycles(words, n, asked);
-    let long = no_spread(words, n, room, 7, cycles);
-    no_spread(words, n, &mut room[0..0], 7, long)
+    let long = no_spread(words, n, 4100, 7, cycles);
+    no_spread(words, n, 0, 7, long)
 }
 
 // Every question about the first `n` states of `words`, which are a table where `answer` is 0.
 fn row(words: &[u64], n: usize, answer: u64, report: Report) -> Report {
-    let mut room: [u64; 4100] = [0; 4100];
     if answer == 0 {
-        let asked = every_question(words, n, &mut room, words, report);
+        let asked = every_question(words, n, 4100, words, report);
         return table_in_cycles(words, n, asked);
     }
-    row_refused(words, n, &mut room, report)
+    row_refused(words, n, report)
 }
 
 // The row of a line, for each of its counts.
-fn row_line(name: &[u8], line: &[u64], words: &[u64], report: Report) -> Report {
+pub(crate) fn row_line(line: &[u64], words: &[u64], report: Report) -> Report {
     let answer = number(line, 1, 0);
-    let first = amount_said(above_in(words, number(line, 2, 0) as usize, 0));
-    say_answer(b"questions: ", name, first.refusal);
+    let said = amount_said(above_in(words, number(line, 2, 0) as usize, 0));
+    say_answer(said.refusal);
     let mut all = report;
     let counts = count(line, 2);
     let mut i: usize = 0;
@@ -108,29 +107,25 @@ fn step_units(i: usize, halves: usize) -> u64 {
     HALF_STEP
 }
 
-fn ladder_in(name: &[u8], line: &[u64], words: &mut [u64], report: Report) -> Report {
-    ladder(words, number(line, 3, 1) as usize);
-    row_line(name, line, words, report)
-}
-
-pub(crate) fn ladder_line(name: &[u8], line: &[u64], report: Report) -> Report {
-    let mut words: [u64; 15000] = [0; 15000];
+pub(crate) fn ladder_line(line: &[u64], report: Report) -> Report {
+    let mut room: [u64; 15000] = [0; 15000];
     let states = number(line, 3, 0);
     if 3000 < states {
         return report.compared(false);
     }
-    let end = states as usize * 5;
-    ladder_in(name, line, &mut words[0..end], report)
+    let words = first(&mut room, states * 5);
+    ladder(words, number(line, 3, 1) as usize);
+    row_line(line, words, report)
 }
 
 // Both questions in cycles.
-fn time_line(name: &[u8], line: &[u64], words: &[u64], report: Report) -> Report {
+pub(crate) fn time_line(line: &[u64], words: &[u64], report: Report) -> Report {
     let n = words.len() / 5;
     let core = number(line, 1, 0) as usize;
     let longest = number(line, 1, 1);
     let answer = number(line, 1, 2);
     let said = amount_said(above_cycles_in(words, n, core, longest, 0));
-    say_answer(b"cycles: ", name, said.refusal);
+    say_answer(said.refusal);
     if answer == 0 {
         let units = above(words, n, core, longest, 0, words, report);
         return budget(words, n, core, longest, 0, words, units);
@@ -139,7 +134,7 @@ fn time_line(name: &[u8], line: &[u64], words: &[u64], report: Report) -> Report
 }
 
 // The smallest cycle budget for a number of units.
-fn allowed_line(line: &[u64], words: &[u64], report: Report) -> Report {
+pub(crate) fn allowed_line(line: &[u64], words: &[u64], report: Report) -> Report {
     let core = number(line, 1, 0) as usize;
     let longest = number(line, 1, 1);
     let units = number(line, 1, 2);
@@ -150,27 +145,4 @@ fn allowed_line(line: &[u64], words: &[u64], report: Report) -> Report {
     report
         .compared(said.refusal == 0)
         .compared(said.value == number(line, 1, 3))
-}
-
-// A line whose words stand in its field `field`.
-pub(crate) fn table_line(
-    kind: u8,
-    name: &[u8],
-    line: &[u64],
-    field: usize,
-    report: Report,
-) -> Report {
-    if 14 < field {
-        return report.compared(false);
-    }
-    let from = begin(line, field);
-    let end = begin(line, field + 1);
-    if end < from {
-        return report.compared(false);
-    }
-    match kind {
-        b'q' => row_line(name, line, &line[from..end], report),
-        b't' => time_line(name, line, &line[from..end], report),
-        _ => allowed_line(line, &line[from..end], report),
-    }
 }

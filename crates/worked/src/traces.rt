@@ -10,16 +10,18 @@
 //
 // where the answer is 0 or the number of a refusal, which leaves the room as it was. The value is how many accesses were read, or the place of
 // a damaged block.
-use crate::lines::begin;
 use crate::lines::count;
-use crate::lines::list;
+use crate::lines::field_of;
 use crate::lines::number;
-use crate::lines::small;
+use crate::lines::numbers_of;
+use crate::listings::holds;
+use crate::listings::rest_of;
 use crate::numbers::say;
 use crate::numbers::say_answer;
 use crate::report::Report;
-use crate::rooms::has_only;
-use crate::rooms::is_marked;
+use crate::rooms::first;
+use crate::rooms::first_numbers;
+use crate::rooms::is_left;
 use crate::rooms::mark;
 use crate::said::Said;
 use crate::said::blocks_said;
@@ -36,47 +38,11 @@ fn fill_bytes(room: &mut [u8], with: u8) {
     }
 }
 
-fn fill_numbers(room: &mut [u32], with: u32) {
-    let mut i: usize = 0;
-    while i < room.len() {
-        room[i] = with;
-        i += 1;
-    }
-}
-
 // Whether each byte from place `from` on is `value`.
 fn bytes_are(room: &[u8], from: usize, value: u8) -> bool {
     let mut i = from;
     while i < room.len() {
         if room[i] != value {
-            return false;
-        }
-        i += 1;
-    }
-    true
-}
-
-// Whether each number from place `from` on is `value`.
-fn numbers_are(room: &[u32], from: usize, value: u32) -> bool {
-    let mut i = from;
-    while i < room.len() {
-        if room[i] != value {
-            return false;
-        }
-        i += 1;
-    }
-    true
-}
-
-// Whether the first numbers are those of a field.
-fn numbers_stand(room: &[u32], line: &[u64], field: usize) -> bool {
-    let n = count(line, field);
-    if room.len() < n {
-        return false;
-    }
-    let mut i: usize = 0;
-    while i < n {
-        if room[i] != small(number(line, field, i)) {
             return false;
         }
         i += 1;
@@ -103,15 +69,11 @@ fn put_bytes(trace: &mut [u8], line: &[u64]) {
     }
 }
 
-fn write_in(trace: &mut [u8], line: &[u64], accesses: &mut [u32]) -> Said {
-    let n = list(line, 3, accesses);
-    blocks_said(write_trace(&accesses[0..n], trace))
-}
-
 // The accesses of a line are written.
 fn write_list(trace: &mut [u8], line: &[u64]) -> Said {
-    let mut accesses: [u32; 4100] = [0; 4100];
-    write_in(trace, line, &mut accesses)
+    let mut room: [u32; 4100] = [0; 4100];
+    let accesses = numbers_of(line, 3, &mut room);
+    blocks_said(write_trace(accesses, trace))
 }
 
 // Whether the trace is a block of zeros but for the bytes of a line.
@@ -122,10 +84,10 @@ fn is_block(trace: &[u8], line: &[u64]) -> bool {
 }
 
 // What writing left: blocks up to byte `end` and zeros behind them, or a refusal with the bytes as they were.
-fn compare_made(name: &[u8], line: &[u64], said: Said, trace: &[u8], report: Report) -> Report {
+fn compare_made(line: &[u64], said: Said, trace: &[u8], report: Report) -> Report {
     let answer = number(line, 1, 0);
     let end = number(line, 1, 1);
-    say_answer(b"traces: ", name, said.refusal);
+    say_answer(said.refusal);
     let told = report
         .compared(said.refusal == answer)
         .compared(said.value == end / 512);
@@ -135,94 +97,54 @@ fn compare_made(name: &[u8], line: &[u64], said: Said, trace: &[u8], report: Rep
     told.compared(bytes_are(trace, 0, 7))
 }
 
-fn made(name: &[u8], line: &[u64], trace: &mut [u8], report: Report) -> Report {
+fn made(line: &[u64], trace: &mut [u8], report: Report) -> Report {
     fill_bytes(trace, 7);
     let said = write_list(trace, line);
-    compare_made(name, line, said, trace, report)
+    compare_made(line, said, trace, report)
 }
 
 // What reading left: the accesses and zeros behind them, or a refusal with the room as it was.
-fn compare_got(name: &[u8], line: &[u64], said: Said, room: &[u32], report: Report) -> Report {
+fn compare_got(line: &[u64], said: Said, room: &[u32], report: Report) -> Report {
     let answer = number(line, 1, 0);
-    let value = number(line, 1, 1);
-    say_answer(b"traces: ", name, said.refusal);
     let told = report
         .compared(said.refusal == answer)
-        .compared(said.value == value);
+        .compared(said.value == number(line, 1, 1))
+        .compared(holds(line, 3, room, rest_of(answer)));
     if answer == 0 {
-        return told.compared(numbers_are(room, value as usize, 0))
-            .compared(numbers_stand(room, line, 3));
+        return told.compared(said.value == count(line, 3) as u64);
     }
-    told.compared(numbers_are(room, 0, 7))
+    told
 }
 
-fn got_in(name: &[u8], line: &[u64], trace: &[u8], room: &mut [u32], report: Report) -> Report {
-    fill_numbers(room, 7);
+fn got(line: &[u64], trace: &[u8], report: Report) -> Report {
+    let mut accesses: [u32; 400] = [7; 400];
+    let room = first_numbers(&mut accesses, number(line, 4, 0));
     let said = reading_said(read_trace(trace, room));
-    compare_got(name, line, said, room, report)
-}
-
-fn got(name: &[u8], line: &[u64], trace: &[u8], report: Report) -> Report {
-    let mut accesses: [u32; 400] = [0; 400];
-    let room = number(line, 4, 0) as usize;
-    if 400 < room {
-        return report.compared(false);
-    }
-    got_in(name, line, trace, &mut accesses[0..room], report)
+    say_answer(said.refusal);
+    compare_got(line, said, room, report)
 }
 
 // How many blocks are damaged, or the refusal.
-fn say_damaged(name: &[u8], refusal: u64, damaged: u64) {
-    if refusal == 0 {
-        io::write_all(1, b"traces: ");
-        io::write_all(1, name);
-        say(b": damaged ", damaged);
+fn say_damaged(said: Said) {
+    if said.refusal == 0 {
+        say(b": damaged ", said.value);
         return;
     }
-    say_answer(b"traces: ", name, refusal);
+    say_answer(said.refusal);
 }
 
 // The damaged blocks are listed: these places and zeros behind them, or a refusal that leaves the room as it was.
-fn damaged_in(
-    name: &[u8],
-    line: &[u64],
-    trace: &[u8],
-    places: &mut [u64],
-    expected: &[u64],
-    report: Report,
-) -> Report {
+fn damaged(line: &[u64], trace: &[u8], report: Report) -> Report {
     let answer = number(line, 1, 0);
+    let mut room: [u64; 5] = [0; 5];
+    let places = first(&mut room, number(line, 4, 0));
     mark(places);
     let said = blocks_said(list_damaged(trace, places));
-    say_damaged(name, said.refusal, said.value);
-    let told = report
+    say_damaged(said);
+    report
         .compared(said.refusal == answer)
-        .compared(said.value == expected.len() as u64);
-    if answer == 0 {
-        return told.compared(has_only(places, expected));
-    }
-    told.compared(is_marked(places))
-}
-
-fn damaged(name: &[u8], line: &[u64], trace: &[u8], report: Report) -> Report {
-    let mut places: [u64; 5] = [0; 5];
-    let room = number(line, 4, 0) as usize;
-    let from = begin(line, 3);
-    let end = begin(line, 4);
-    if 5 < room {
-        return report.compared(false);
-    }
-    if end < from {
-        return report.compared(false);
-    }
-    damaged_in(
-        name,
-        line,
-        trace,
-        &mut places[0..room],
-        &line[from..end],
-        report,
-    )
+        .compared(said.value == count(line, 3) as u64)
+        .compared(is_left(answer, places, field_of(line, 3)))
 }
 
 fn wide(byte: u8) -> u64 {
@@ -237,26 +159,24 @@ fn byte_at(trace: &[u8], at: usize) -> u64 {
     256
 }
 
-fn shown(name: &[u8], line: &[u64], trace: &[u8], report: Report) -> Report {
+fn shown(line: &[u64], trace: &[u8], report: Report) -> Report {
     let byte = byte_at(trace, number(line, 1, 0) as usize);
-    io::write_all(1, b"traces: ");
-    io::write_all(1, name);
     say(b": ", byte);
     report.compared(byte == number(line, 1, 1))
 }
 
 // A line that leaves the trace as it is.
-fn looked(kind: u8, name: &[u8], line: &[u64], trace: &[u8], report: Report) -> Report {
+fn looked(kind: u8, line: &[u64], trace: &[u8], report: Report) -> Report {
     match kind {
         b'e' => report.compared(is_block(trace, line)),
-        b's' => shown(name, line, trace, report),
-        b'd' => damaged(name, line, trace, report),
-        _ => got(name, line, trace, report),
+        b's' => shown(line, trace, report),
+        b'd' => damaged(line, trace, report),
+        _ => got(line, trace, report),
     }
 }
 
 // A line about these bytes of the trace.
-fn trace_in(kind: u8, name: &[u8], line: &[u64], trace: &mut [u8], report: Report) -> Report {
+fn trace_in(kind: u8, line: &[u64], trace: &mut [u8], report: Report) -> Report {
     if kind == b'n' {
         fill_bytes(trace, 0);
         write_list(trace, line);
@@ -267,21 +187,15 @@ fn trace_in(kind: u8, name: &[u8], line: &[u64], trace: &mut [u8], report: Repor
         return report;
     }
     if kind == b'm' {
-        return made(name, line, trace, report);
+        return made(line, trace, report);
     }
-    looked(kind, name, line, trace, report)
+    looked(kind, line, trace, report)
 }
 
-pub(crate) fn trace_line(
-    kind: u8,
-    name: &[u8],
-    line: &[u64],
-    trace: &mut [u8],
-    report: Report,
-) -> Report {
+pub(crate) fn trace_line(kind: u8, line: &[u64], trace: &mut [u8], report: Report) -> Report {
     let end = number(line, 2, 0) as usize;
     if trace.len() < end {
         return report.compared(false);
     }
-    trace_in(kind, name, line, &mut trace[0..end], report)
+    trace_in(kind, line, &mut trace[0..end], report)
 }

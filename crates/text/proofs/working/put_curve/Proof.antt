@@ -7,7 +7,7 @@ use lib.ListN.{take}
 use Rattle.rules.proofs.Questions.{table-largest}
 use Rattle.words.specs.Tables.{tableOf}
 use Rattle.writing.proofs.Putting.{put-is, put-then}
-use Rattle.text.proofs.Lines.{counted-long, counted-lines, counted-whole}
+use Rattle.text.proofs.Lines.{counted-long, counted-lines}
 use Rattle.text.proofs.working.put_curve.Statement.{statement}
 use Rattle.text.proofs.working.put_curve.Tie as tie
 
@@ -21,25 +21,18 @@ few c =
     let s = startOf c in
     omega (arith, c .count-all .ensures .count, table-largest (take (s .args .states) (tableOf (now (s .args .result)))) (s .pre .0))
 
-counts-within : tie.Need-slice-reshare-prefix-put-lines
+counts-within : tie.Need-slice-reshare-prefix-put-counts
 counts-within c = let n = c .before .before .before in omega (arith, few n, n .count-all .kept .1 .1 .0)
 
-counts-long : tie.Need-slice-aggregate-put-lines
+counts-long : tie.Need-slice-aggregate-put-counts
 counts-long c = counted-long _ _ _ (c .before .before .before .before .count-all .ensures)
-
-put-lines-requires : tie.Need-put-lines-requires
-put-lines-requires c κs =
-    let n = c .before .before .before .before in
-    let good = startOf n .pre .0 in
-    let found = n .count-all .ensures in
-    (counted-whole _ _ _ good found, omega (arith, counted-long _ _ _ found, few n))
 
 returns : tie.Need-returns
 returns c =
     let lines = c .before .before in
     let n = lines .before .before .before .before .before in
     let head = n .before .before .before .before in
-    put-then _ _ _ _ _ (head .put-head .ensures) _ _ _ (put-is _ _ _ _ _ _ (lines .put-lines .ensures) (counted-lines _ _ _ (startOf n .pre .0) (n .count-all .ensures)))
+    put-then _ _ _ _ _ (head .put-head .ensures) _ _ _ (put-is _ _ _ _ _ _ (lines .put-counts .ensures) (counted-lines _ _ _ (startOf n .pre .0) (n .count-all .ensures)))
 
 pub put-curve-spec : {M : Type 1} → statement M
 put-curve-spec =
@@ -49,7 +42,7 @@ put-curve-spec =
     (λ c κs. search needs)
     counts-within
     counts-long
-    put-lines-requires
+    (λ c κs. search needs)
     (λ c. search needs)
     (λ c. search needs)
     returns)

@@ -7,7 +7,7 @@ use lib.ListN.{take}
 use Rattle.rules.proofs.Questions.{table-largest}
 use Rattle.words.specs.Tables.{tableOf}
 use Rattle.writing.proofs.Putting.{put-is, put-then}
-use Rattle.text.proofs.Lines.{counted-long, counted-cores, counted-whole}
+use Rattle.text.proofs.Lines.{counted-long, counted-cores}
 use Rattle.text.proofs.working.put_cycles.Statement.{statement}
 use Rattle.text.proofs.working.put_cycles.Tie as tie
 
@@ -27,12 +27,10 @@ counts-within c = let n = c .before .before .before in omega (arith, few n, n .c
 counts-long : tie.Need-slice-aggregate-put-cores
 counts-long c = counted-long _ _ _ (c .before .before .before .before .count-all .ensures)
 
-put-cores-requires : tie.Need-put-cores-requires
-put-cores-requires c κs =
-    let n = c .before .before .before .before in
-    let (good, covered, path, room) = startOf n .pre in
-    let found = n .count-all .ensures in
-    (omega (arith, counted-long _ _ _ found, few n), counted-whole _ _ _ good found, path)
+accesses-fit : tie.Need-cast-put-cores
+accesses-fit c =
+    let (good, covered, path, room) = startOf (c .before .before .before .before) .pre in
+    omega (arith, path)
 
 returns : tie.Need-returns
 returns c =
@@ -49,7 +47,8 @@ put-cycles-spec =
     (λ c κs. search needs)
     counts-within
     counts-long
-    put-cores-requires
+    accesses-fit
+    (λ c κs. search needs)
     (λ c. search needs)
     (λ c. search needs)
     returns)

@@ -5,10 +5,10 @@ use Rattle.worked.proofs.tables.row_line.Statement.{statement}
 use Rattle.worked.proofs.tables.row_line.Tie as tie
 
 abbrev Inv-loop : tie.InvT-loop
-Inv-loop name line words answer all₀ counts i₀ all i = i ≤ counts
+Inv-loop line words answer all₀ counts i₀ all i = i ≤ counts
 
 abbrev μ-loop : tie.MeasureT-loop
-μ-loop name line words answer all₀ counts i₀ all i = counts - i
+μ-loop line words answer all₀ counts i₀ all i = counts - i
 
 pub row-line-spec : {M : Type 1} → statement M
-row-line-spec = tie.close (tie.spec Inv-loop μ-loop (λ c κs. search needs) (λ c κs. search needs) (λ c κs. search needs) (λ c κs. search needs) (λ c. search needs) (λ c κs. search needs) (λ c κs. search needs) (λ c. search needs) (λ c κs. search needs) (λ c κs. search needs) (λ c. search needs) (λ c. search needs) (λ c. search needs) (λ c. search needs))
+row-line-spec = tie.close (tie.spec Inv-loop μ-loop (λ c κs. search needs) (λ c κs. search needs) (λ c κs. search needs) (λ c. search needs) (λ c κs. search needs) (λ c κs. search needs) (λ c. search needs) (λ c κs. search needs) (λ c κs. search needs) (λ c. search needs) (λ c. search needs) (λ c. search needs) (λ c. search needs))

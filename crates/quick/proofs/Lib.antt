@@ -1,0 +1,2 @@
+-- A row added from its top end
+pub mod Downwards

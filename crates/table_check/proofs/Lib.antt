@@ -1,0 +1,2 @@
+-- Whether states are a table
+pub mod Fitting
