@@ -916,11 +916,29 @@ static void make_wide_graph(struct input *input, uint32_t reach)
     }
 }
 
+/* All ties, and wide tables: in the second revision node 0 fills the cache with the tracked blocks, which is one state. From there each of 62 nodes accesses
+ * four untracked blocks, which leaves up to 657 states before they are folded, many with as many units, misses and blocks as each other. The last node joins
+ * them all. */
+static void make_ties(struct input *input)
+{
+    make_straight_run(input, CYCLIC, 16 + 62 * 4, 16, 64);
+    input->revision = 2;
+    for (uint32_t i = 16; i < input->access_count; i++)
+        input->accesses[i] = 5000 + i;
+    input->nodes = 64;
+    for (uint32_t node = 0; node < 64; node++)
+        input->runs[node] = node == 0 ? 16 : node == 63 ? 0 : 4;
+    for (uint32_t node = 1; node < 63; node++)
+        add_edge(input, 0, node);
+    for (uint32_t node = 1; node < 63; node++)
+        add_edge(input, node, 63);
+}
+
 const char *make_heavy_input(size_t which, struct input *input)
 {
     static const char *const names[HEAVY_INPUTS + GROWTH_INPUTS] = {
         "shuffled", "random", "cyclic", "random-8-ways", "random-limit-8", "graph-two-edges", "graph-all-edges",
-        "random-4-sets", "random-revision-2", "random-limit-1", "cyclic-2-ways",
+        "random-4-sets", "random-revision-2", "random-limit-1", "cyclic-2-ways", "graph-ties",
         "random-512", "random-1024", "random-2048", "random-4096",
     };
     if (which >= HEAVY_INPUTS + GROWTH_INPUTS)
@@ -939,6 +957,8 @@ const char *make_heavy_input(size_t which, struct input *input)
         make_straight_run(input, RANDOM, 4096, 16, 1);
     else if (which == 10)
         make_straight_run(input, CYCLIC, 4096, 2, 64);
+    else if (which == 11)
+        make_ties(input);
     else
         make_straight_run(input, RANDOM, (size_t)512 << (which - HEAVY_INPUTS), 16, 64);
     return names[which];

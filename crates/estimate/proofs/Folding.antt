@@ -1,19 +1,20 @@
--- Folding a table: how a search finds the best state place by place, first the state of fewest units and then its partner among the
--- others (where that search may stop early is Partnering's); how the
+-- Folding a table: the least units, and the first state that has them; how a search finds the best partner place by place, and that it may stop at one that none
+-- can beat (the other stops are Partnering's); how the
 -- states move down where one is taken out; that the two replaced by what they become are a fold; and that one fold after the other comes to the state
 -- limit. Tables are the first n states of a list.
 use mathlib.Core.Path.{_≡_, refl, sym, ap, _∙_}
 use mathlib.Core.Bool.{Bool, true, false, cond, _&&_, _||_, not, true≢false}
 use mathlib.Core.Logic.{_≢_}
 use mathlib.Core.List.{List, [], _∷_}
-use Prim.Native.Nat.{ℕ, zero, suc, _+_, _-_, _≤_, _<_}
+use Prim.Native.Nat.{ℕ, zero, suc, _+_, _-_, _≤_, _<_, min}
 use native.Mathlib.Nat.{le-of-suc-le-suc, le-refl, le-antisymm}
 use native.Mathlib.Numerals.{add-one}
+use native.Mathlib.Decide.{ℕ-discrete, decLt, decLe}
 use native.Mathlib.Omega.{arith}
 use lib.Dec.{eqb, ltb, leb}
-use lib.ListN.{length, set, take, drop, length-set}
+use lib.ListN.{length, set, take, drop, length-set, length-drop}
 use lib.Seq.{take-nil, take-suc, drop-cons, getD-take, getD-drop, length-take-le, take-suc-set, take-set-lt, drop-set-lt, drop-drop, drop-length}
-use borrow.Author.Tests.{lt-ltb, le-ltb, eq-eqb, ne-eqb, le-leb, lt-leb, leb-false, not-true}
+use borrow.Author.Tests.{lt-ltb, le-ltb, eq-eqb, ne-eqb, eqb-true, le-leb, lt-leb, leb-true, leb-false, not-true}
 use Rattle.basics.proofs.Bools.{and-left, and-right}
 use Rattle.rules.specs.declared.State.{State}
 use Rattle.rules.specs.declared.Pair.{Pair}
@@ -26,12 +27,12 @@ use Rattle.rules.specs.Fold.{fewer, sharing, apart, closer, choice, meet, chang
 use Rattle.rules.proofs.Lists.{length-remove, best-lt}
 use Rattle.rules.proofs.Ordered.{in-order-remove}
 use Rattle.rules.proofs.Table.{rising-is, rising-so}
-use Rattle.rules.proofs.Partners.{past, past-other, among-past, others-behind, others-at}
+use Rattle.rules.proofs.Partners.{stays, first-best, past, past-other, among-past, others-behind, others-at, not-closer}
 use Rattle.rules.proofs.Replacing.{removed-both, among-within, kept}
 use Rattle.rules.proofs.Fold.{firstOf, secondOf, meetOf, rising-fold, fold-shorter}
 use Rattle.estimate.specs.Placing.{isSame, Added}
 use Rattle.estimate.specs.Rooms.{Stands}
-use Rattle.estimate.specs.Partners.{among, replaced, Replaced}
+use Rattle.estimate.specs.Partners.{NoneMore, Fewest, Lowest, among, replaced, Replaced}
 use Rattle.estimate.proofs.Insertion.{same-tests}
 
 -- ---- the search for the best, over any list of states
@@ -59,6 +60,12 @@ search-start better (t ∷ R) l = refl
 
 search-end : (better : State → State → Bool) (R : List State) (k j : ℕ) → j ≡ length R → Searched better R k j → best better R ≡ k
 search-end better R k j e h = h ∙ rw (e, drop-length R)
+
+-- none of those that are left is better
+search-stop : (better : State → State → Bool) (R : List State) (k j : ℕ)
+    → ((p : ℕ) → p < length R → better (stateAt R p) (stateAt R k) ≡ false) → Searched better R k j → best better R ≡ k
+search-stop better R k j none h =
+    h ∙ stays better noState (stateAt R k) k j (drop j R) (λ p l. rw (getD-drop j R p noState) (none (j + p) (omega (arith, l, length-drop j R))))
 
 -- ---- what is set aside
 
@@ -135,34 +142,126 @@ module _ (i : ℕ) (t : List State) where
       let all : n ≡ suc j = omega arith in
       rw (last, all) (h .front ∙ take-remove i j t (omega arith))
 
--- ---- the state of fewest units among the first n
+-- ---- the state of fewest units
 
--- the search has come to place i; the fewest so far are u units, at place k
-pub record Fewest (R : List State) (k u i : ℕ) : Type 0 where
-  pub search : Searched fewer R k i
-  pub units : u ≡ unitsOf (stateAt R k)
+module _ (T : List State) where
+  pub fewest-one : (i j u : ℕ) → j ≡ i + 1 → u ≡ unitsOf (stateAt T i) → Fewest T i j u
+  fewest-one i j u next e =
+      record {
+        each = λ q l k. let p : q ≡ i = omega arith in rw (p, e) (le-refl _);
+        has = i;
+        from = le-refl i;
+        to = omega arith;
+        units = sym e;
+      }
 
-module _ (T : List State) (n : ℕ) (room : n ≤ length T) where
-  -- a state of the list at a place below n stands in the table
-  here : (i : ℕ) (s : State) → i < n → s ≡ stateAt T i → s ≡ stateAt (take n T) i
-  here i s l e = e ∙ sym (getD-take n T i noState l)
+  -- two stretches, one behind the other: u is the least of the first, and v that of the second
+  module _ (i j k u v : ℕ) (a : Fewest T i j u) (b : Fewest T j k v) where
+    fewest-first : u ≤ v → Fewest T i k u
+    fewest-first l =
+        record {
+          each = λ q m n. go q m n (decLt q j);
+          has = a .has;
+          from = a .from;
+          to = omega (arith, a .to, b .from, b .to);
+          units = a .units;
+        }
+      where
+        go : (q : ℕ) → i ≤ q → q < k → Dec (q < j) → u ≤ unitsOf (stateAt T q)
+        go q m n (yes d) = a .each q m d
+        go q m n (no d) = omega (arith, l, b .each q (omega (arith, d)) n)
 
-  pub fewest-start : (s : State) → 0 < n → s ≡ stateAt T 0 → Fewest (take n T) 0 (unitsOf s) 1
-  fewest-start s l e =
-      record { search = search-start fewer (take n T) (omega (arith, length-take-le n T room)); units = ap unitsOf (here 0 s l e) }
+    fewest-second : v ≤ u → Fewest T i k v
+    fewest-second l =
+        record {
+          each = λ q m n. go q m n (decLt q j);
+          has = b .has;
+          from = omega (arith, a .from, a .to, b .from);
+          to = b .to;
+          units = b .units;
+        }
+      where
+        go : (q : ℕ) → i ≤ q → q < k → Dec (q < j) → v ≤ unitsOf (stateAt T q)
+        go q m n (yes d) = omega (arith, l, a .each q m d)
+        go q m n (no d) = b .each q (omega (arith, d)) n
 
-  module _ (k u i : ℕ) (s : State) (l : i < n) (e : s ≡ stateAt T i) (h : Fewest (take n T) k u i) where
-    fewest-turn : (b : Bool) → ltb (unitsOf s) u ≡ b → Searched fewer (take n T) (cond b i k) (i + 1)
-    fewest-turn b q = search-turn fewer (take n T) k i b (omega (arith, length-take-le n T room)) (rw (← here i s l e, ← h .units) q) (h .search)
+    fewest-both : (r : ℕ) → r ≡ min u v → Fewest T i k r
+    fewest-both r e = go (decLe u v)
+      where
+        go : Dec (u ≤ v) → Fewest T i k r
+        go (yes l) = let d : r ≡ u = omega arith in rw d (fewest-first l)
+        go (no l) = let d : r ≡ v = omega arith in rw d (fewest-second (omega (arith, l)))
 
-    pub fewest-less : unitsOf s < u → Fewest (take n T) i (unitsOf s) (i + 1)
-    fewest-less q = record { search = fewest-turn true (lt-ltb _ _ q); units = ap unitsOf (here i s l e) }
+  -- four states, and the fewer units of each two
+  pub fewest-four : (i : ℕ) (s t u v : State) → s ≡ stateAt T i → t ≡ stateAt T (i + 1) → u ≡ stateAt T (i + 2) → v ≡ stateAt T (i + 3)
+      → (a b r : ℕ) → a ≡ min (unitsOf s) (unitsOf t) → b ≡ min (unitsOf u) (unitsOf v) → r ≡ min a b → Fewest T i (i + 4) r
+  fewest-four i s t u v p q x y a b r d e =
+      fewest-both i (i + 2) (i + 4) a b
+      (fewest-both i (i + 1) (i + 2) _ _ (fewest-one i (i + 1) _ refl (ap unitsOf p)) (fewest-one (i + 1) (i + 2) _ (omega arith) (ap unitsOf q)) a d)
+      (fewest-both (i + 2) (i + 3) (i + 4) _ _ (fewest-one (i + 2) (i + 3) _ (omega arith) (ap unitsOf x)) (fewest-one (i + 3) (i + 4) _ (omega arith) (ap unitsOf y)) b e) r
 
-    pub fewest-more : u ≤ unitsOf s → Fewest (take n T) k u (i + 1)
-    fewest-more q = record { search = fewest-turn false (le-ltb _ _ q); units = h .units }
+  pub lowest-start : (u : ℕ) → u ≡ unitsOf (stateAt T 0) → Lowest T 1 u 0
+  lowest-start u e = (fewest-one 0 1 u refl e, λ q l. absurd (omega arith))
 
-  pub fewest-end : (k u i : ℕ) → i ≡ n → Fewest (take n T) k u i → best fewer (take n T) ≡ k
-  fewest-end k u i e h = search-end fewer (take n T) k i (e ∙ sym (length-take-le n T room)) (h .search)
+  -- v is the least of the next states
+  module _ (i j u v f : ℕ) (h : Lowest T i u f) (b : Fewest T i j v) where
+    pub lowest-less : v < u → Lowest T j v i
+    lowest-less l = (b, λ q m. go q m (decLt q f))
+      where
+        go : (q : ℕ) → q < i → Dec (q < f) → v < unitsOf (stateAt T q)
+        go q m (yes d) = omega (arith, l, h .1 q d)
+        go q m (no d) = omega (arith, l, h .0 .each q (omega (arith, d)) m)
+
+    pub lowest-more : u ≤ v → Lowest T j u f
+    lowest-more l = (fewest-first f i j u v (h .0) b l, h .1)
+
+  -- the first of those that have it stands at place i or behind it
+  module _ (n u i : ℕ) (h : Lowest T n u i) where
+    pub lowest-within : i < n
+    lowest-within = omega (arith, h .0 .from, h .0 .to)
+
+    module _ (s : State) (is : s ≡ stateAt T i) where
+      pub lowest-turn : u < unitsOf s → Lowest T n u (i + 1)
+      lowest-turn l = (
+        record {
+          each = λ q m. h .0 .each q (omega arith);
+          has = h .0 .has;
+          from = go (ℕ-discrete (h .0 .has) i);
+          to = h .0 .to;
+          units = h .0 .units;
+        },
+        λ q m. ahead q m (decLt q i),
+      )
+        where
+          more : u < unitsOf (stateAt T i)
+          more = rw is at l
+
+          go : Dec (h .0 .has ≡ i) → i + 1 ≤ h .0 .has
+          go (yes e) = absurd (omega (arith, more, h .0 .units, ap (λ p. unitsOf (stateAt T p)) e))
+          go (no d) = omega (arith, d, h .0 .from)
+
+          ahead : (q : ℕ) → q < i + 1 → Dec (q < i) → u < unitsOf (stateAt T q)
+          ahead q m (yes d) = h .1 q d
+          ahead q m (no d) = let e : q ≡ i = omega (arith, d) in rw e more
+
+      -- it is that one: the first that reaches a bound of all is the first best
+      pub lowest-found : n ≤ length T → unitsOf s ≤ u → best fewer (take n T) ≡ i
+      lowest-found room l =
+          first-best fewer noState (take n T) i
+          record {
+            within = omega (arith, long, lowest-within);
+            ahead = λ q m. rw (here i lowest-within, here q (omega (arith, lowest-within))) (lt-ltb (unitsOf (stateAt T i)) (unitsOf (stateAt T q)) (omega (arith, least, h .1 q m)));
+            behind = λ q m k. rw (here i lowest-within, here q (omega (arith, long))) (le-ltb (unitsOf (stateAt T q)) (unitsOf (stateAt T i)) (omega (arith, least, h .0 .each q (omega arith) (omega (arith, long)))));
+          }
+        where
+          long : length (take n T) ≡ n
+          long = length-take-le n T room
+
+          here : (q : ℕ) → q < n → stateAt (take n T) q ≡ stateAt T q
+          here q m = getD-take n T q noState m
+
+          least : unitsOf (stateAt T i) ≤ u
+          least = rw is at l
 
 -- ---- its partner among the others
 
@@ -218,6 +317,29 @@ module _ (T : List State) (n : ℕ) (room : n ≤ length T) (i : ℕ) (among : i
 
   pub partner-end : (k most near j : ℕ) → j + 1 ≡ n → Nearest s R k most near j → k ≡ best (closer s) R
   partner-end k most near j e h = sym (search-end (closer s) R k j (omega (arith, long)) (h .search))
+
+  -- none can beat it
+  pub partner-stop : (k most near j bound : ℕ) (r : Bool) → r ≡ (leb bound most && eqb near 0) → r ≡ true → NoneMore s (take n T) i bound
+      → Nearest s R k most near j → k ≡ best (closer s) R
+  partner-stop k most near j bound r said e none h = sym (search-stop (closer s) R k j unbeaten (h .search))
+    where
+      both : (leb bound most && eqb near 0) ≡ true
+      both = sym said ∙ e
+
+      enough : bound ≤ sharing s (stateAt R k)
+      enough = rw (← h .shares) (leb-true bound most (and-left (leb bound most) _ both))
+
+      nearest : apart s (stateAt R k) ≡ 0
+      nearest = rw (← h .away) (eqb-true near 0 (and-right (leb bound most) _ both))
+
+      unbeaten : (p : ℕ) → p < length R → closer s (stateAt R p) (stateAt R k) ≡ false
+      unbeaten p l = not-closer s (stateAt R p) (stateAt R k) (omega (arith, enough, shares)) (λ d. omega (arith, nearest))
+        where
+          place : past i p < length (take n T)
+          place = omega (arith, length-take-le n T room, other-within i p (past i p) n refl (omega (arith, long)))
+
+          shares : sharing s (stateAt R p) ≤ bound
+          shares = rw (others-at noState i p (take n T)) (none (past i p) place (past-other i p))
 
   -- both are document 01's choice
   pub choice-found : (k : ℕ) → s ≡ stateAt T i → best fewer (take n T) ≡ i → k ≡ best (closer s) R → record { fewest = i; partner = k } ≡ choice (take n T)

@@ -1,11 +1,15 @@
 // Folding a table down to the state limit.
 use crate::contents::size_of;
+use crate::filled::same_filled;
+use crate::join::smaller;
 use crate::memory::load;
 use crate::memory::store;
 use crate::placing::add;
 use crate::placing::is_same;
+use crate::states::Least;
 use crate::states::Tally;
 use crate::states::meet;
+use basics::larger;
 use rules::Pair;
 use rules::State;
 use rules::Units;
@@ -13,16 +17,17 @@ ghost use mathlib.Core.Path.{_≡_};
 ghost use mathlib.Core.Logic.{_≢_};
 ghost use mathlib.Core.Bool.{true, cond, _||_, _&&_, not};
 ghost use Prim.Native.Nat.{suc, _+_, _*_, _-_, _≤_, _<_};
-ghost use lib.Dec.{eqb, ltb};
+ghost use lib.Dec.{eqb, ltb, leb};
 ghost use lib.ListN.{length, take, set};
+ghost use Rattle.rules.specs.Contents.{size};
 ghost use Rattle.rules.specs.Units.{more};
 ghost use Rattle.rules.specs.Ordered.{remove, best};
 ghost use Rattle.rules.specs.Table.{unitsOf, order, rising, stateAt};
-ghost use Rattle.rules.specs.Fold.{sharing as sharingOf, apart as apartOf, closer as closerOf, choice, changed as changedOf, fold, folded};
+ghost use Rattle.rules.specs.Fold.{sharing as sharingOf, apart as apartOf, closer as closerOf, choice, meet as meetOf, changed as changedOf, fold, folded};
 ghost use Rattle.words.specs.Tables.{tableOf};
 ghost use Rattle.estimate.specs.Placing.{isSame};
 ghost use Rattle.estimate.specs.Rooms.{Stands};
-ghost use Rattle.estimate.specs.Partners.{holdsAll, isAlike, leads, nearer, NoneAlike, among, Replaced};
+ghost use Rattle.estimate.specs.Partners.{holdsAll, isAlike, leads, nearer, NoneAlike, NoneMore, FirstOfMask, FirstHolder, Fewest, Lowest, among, Replaced};
 
 // How many blocks `s` shares with `t`.
 pub(crate) fn sharing(s: State, t: State) -> u64
@@ -76,10 +81,20 @@ pub(crate) fn place_among(out: usize, at: usize) -> usize
     at
 }
 
-// The partner of `s` among the others than the one at place `at`, of `n`, place by place. Of the best so far it keeps how many blocks
-// that one shares, `most`, and how far away in misses it is, `near`.
-pub(crate) fn nearest_of_all(words: &[u64], n: usize, at: usize, s: State) -> usize
-    requires { ⌜ (2 ≤ n) × (at < n) × (n * 5 ≤ length (now words)) ⌝ }
+// Whether none can be a better partner than one that shares `most` blocks and is `near` away in misses, where none shares more than `bound`.
+pub(crate) fn is_unbeaten(most: u64, near: u64, bound: u64) -> bool
+    ensures { λ r. ⌜ r ≡ (leb bound most && eqb near 0) ⌝ }
+{
+    if bound <= most {
+        return near == 0;
+    }
+    false
+}
+
+// The partner of `s` among the others than the one at place `at`, of `n`, place by place; none of them shares more than `bound` blocks with it. Of the
+// best so far it keeps how many blocks that one shares, `most`, and how far away in misses it is, `near`.
+pub(crate) fn nearest_of_all(words: &[u64], n: usize, at: usize, s: State, bound: u64) -> usize
+    requires { ⌜ (2 ≤ n) × (at < n) × (n * 5 ≤ length (now words)) × NoneMore s (take n (tableOf (now words))) at bound ⌝ }
     ensures { λ r. ⌜ r ≡ best (closerOf s) (remove at (take n (tableOf (now (words .entry))))) ⌝ }
 {
     let first = load(words, place_past(at, 0));
@@ -88,6 +103,9 @@ pub(crate) fn nearest_of_all(words: &[u64], n: usize, at: usize, s: State) -> us
     let mut near = apart(s, first);
     let mut j: usize = 1;
     while j + 1 < n {
+        if is_unbeaten(most, near, bound) {
+            return partner;
+        }
         let t = load(words, place_past(at, j));
         if closer(s, t, most, near) {
             partner = j;
@@ -106,14 +124,13 @@ pub(crate) fn holds_all(s: State, t: State) -> bool
     s.mask & t.mask == s.mask
 }
 
-// Whether `t` holds all blocks of `s` and has as many misses.
+// Whether `t` holds all blocks of `s` and has as many misses: one test, of what it lacks and of what its misses differ in.
 pub(crate) fn is_alike(s: State, t: State) -> bool
     ensures { λ r. ⌜ r ≡ isAlike s t ⌝ }
 {
-    if holds_all(s, t) {
-        return s.misses == t.misses;
-    }
-    false
+    let lacking = (s.mask & t.mask) ^ s.mask;
+    let differing = s.misses ^ t.misses;
+    lacking | differing == 0
 }
 
 // Whether `s` stands at place `at` before all that are alike to it.
@@ -130,7 +147,48 @@ pub(crate) fn stands_first(words: &[u64], at: usize, s: State) -> bool
     !is_alike(s, load(words, at - 1))
 }
 
-// Whether the state at place `j`, another than the one at place `at`, holds all blocks of `s` and is nearer in misses than `near`.
+// Whether the state at place `j`, another than the one at place `at`, holds all blocks of `s`.
+pub(crate) fn is_holder(words: &[u64], at: usize, s: State, j: usize) -> bool
+    requires { ⌜ j * 5 + 5 ≤ length (now words) ⌝ }
+    ensures { λ r. ⌜ r ≡ (not (eqb j at) && holdsAll s (stateAt (tableOf (now (words .entry))) j)) ⌝ }
+{
+    if j == at {
+        return false;
+    }
+    holds_all(s, load(words, j))
+}
+
+// The place of the first of the states directly before place `at` that have the mask of the one there, which is `mask`, or `at`.
+pub(crate) fn first_of_mask(words: &[u64], at: usize, mask: u64) -> usize
+    requires { ⌜ (at * 5 + 5 ≤ length (now words)) × (stateAt (tableOf (now words)) at .mask ≡ mask) ⌝ }
+    ensures { λ r. ⌜ FirstOfMask (tableOf (now (words .entry))) mask at r ⌝ }
+{
+    let mut i = at;
+    while 0 < i {
+        if load(words, i - 1).mask != mask {
+            return i;
+        }
+        i -= 1;
+    }
+    i
+}
+
+// The place of the first of the states that hold all blocks of `s`, which stands at place `at` of `n`; `n` if there is none. None of them has a lower mask.
+pub(crate) fn first_holder(words: &[u64], n: usize, at: usize, s: State) -> usize
+    requires { ⌜ (at < n) × (n * 5 ≤ length (now words)) × (s ≡ stateAt (tableOf (now words)) at) × (rising (take n (tableOf (now words))) ≡ true) ⌝ }
+    ensures { λ r. ⌜ FirstHolder s (take n (tableOf (now (words .entry)))) at n r ⌝ }
+{
+    let mut j = first_of_mask(words, at, s.mask);
+    while j < n {
+        if is_holder(words, at, s, j) {
+            return j;
+        }
+        j += 1;
+    }
+    n
+}
+
+// Whether it holds all blocks of `s` and is nearer in misses than `near`.
 pub(crate) fn is_nearer(words: &[u64], at: usize, s: State, j: usize, near: u64) -> bool
     requires { ⌜ j * 5 + 5 ≤ length (now words) ⌝ }
     ensures { λ r. ⌜ r ≡ (not (eqb j at) && nearer s (stateAt (tableOf (now (words .entry))) j) near) ⌝ }
@@ -145,15 +203,15 @@ pub(crate) fn is_nearer(words: &[u64], at: usize, s: State, j: usize, near: u64)
     false
 }
 
-// The place of the nearest in misses of the states that hold all blocks of `s`, which stands at place `at` of `n`; `n` if none is found. None is
-// alike, so that one miss apart is as near as can be.
-pub(crate) fn nearest_holder(words: &[u64], n: usize, at: usize, s: State) -> usize
-    requires { ⌜ (at < n) × (n * 5 ≤ length (now words)) × (s .mask < 65536) × NoneAlike s (take n (tableOf (now words))) at ⌝ }
-    ensures { λ r. ⌜ (r < n → among at r ≡ best (closerOf s) (remove at (take n (tableOf (now (words .entry)))))) ⌝ }
+// The place of the nearest in misses of the states that hold all blocks of `s`, which stands at place `at` of `n`; the first of them stands at place
+// `first`. None is alike, so that one miss apart is as near as can be.
+pub(crate) fn nearest_holder(words: &[u64], n: usize, at: usize, s: State, first: usize) -> usize
+    requires { ⌜ (at < n) × (n * 5 ≤ length (now words)) × (s .mask < 65536) × NoneAlike s (take n (tableOf (now words))) at × (first < n) × FirstHolder s (take n (tableOf (now words))) at n first ⌝ }
+    ensures { λ r. ⌜ among at r ≡ best (closerOf s) (remove at (take n (tableOf (now (words .entry))))) ⌝ }
 {
-    let mut found = n;
-    let mut near: u64 = 18446744073709551615;
-    let mut j: usize = 0;
+    let mut found = first;
+    let mut near = apart(s, load(words, first));
+    let mut j = first + 1;
     while j < n {
         if near <= 1 {
             return found;
@@ -167,41 +225,106 @@ pub(crate) fn nearest_holder(words: &[u64], n: usize, at: usize, s: State) -> us
     found
 }
 
-// The partner of `s`, which stands at place `at` of `n`, where none is alike: the nearest of those that hold all its blocks, and else the best of all.
-pub(crate) fn nearest(words: &[u64], n: usize, at: usize, s: State) -> usize
-    requires { ⌜ (2 ≤ n) × (at < n) × (n * 5 ≤ length (now words)) × (s .mask < 65536) × NoneAlike s (take n (tableOf (now words))) at ⌝ }
-    ensures { λ r. ⌜ r ≡ best (closerOf s) (remove at (take n (tableOf (now (words .entry))))) ⌝ }
+// One block fewer than `s` has; none where it has none.
+pub(crate) fn one_fewer(s: State) -> u64
+    ensures { λ r. ⌜ r ≡ size (s .mask) - 1 ⌝ }
 {
-    let found = nearest_holder(words, n, at, s);
-    if found < n {
-        return place_among(at, found);
+    let all = size_of(s.mask);
+    if all == 0 {
+        return 0;
     }
-    nearest_of_all(words, n, at, s)
+    all - 1
 }
 
-// The state of fewest units among `n`, and its partner among the others. Most often a state alike to it stands not far behind it: the first such one is
-// the partner.
+// The partner of `s`, which stands at place `at` of `n`, where none is alike: the nearest of those that hold all its blocks, and else the best of all, none of
+// which shares all of them.
+pub(crate) fn nearest(words: &[u64], n: usize, at: usize, s: State) -> usize
+    requires { ⌜ (2 ≤ n) × (at < n) × (n * 5 ≤ length (now words)) × (s .mask < 65536) × NoneAlike s (take n (tableOf (now words))) at × (s ≡ stateAt (tableOf (now words)) at) × (rising (take n (tableOf (now words))) ≡ true) ⌝ }
+    ensures { λ r. ⌜ r ≡ best (closerOf s) (remove at (take n (tableOf (now (words .entry))))) ⌝ }
+{
+    let first = first_holder(words, n, at, s);
+    if first < n {
+        return place_among(at, nearest_holder(words, n, at, s, first));
+    }
+    nearest_of_all(words, n, at, s, one_fewer(s))
+}
+
+// The fewest units of the four states from place `at` on.
+pub(crate) fn least_of_four(words: &[u64], at: usize) -> Units
+    requires { ⌜ at * 5 + 20 ≤ length (now words) ⌝ }
+    ensures { λ r. ⌜ Fewest (tableOf (now (words .entry))) at (at + 4) (r .0) ⌝ }
+{
+    let first = smaller(load(words, at).units, load(words, at + 1).units);
+    let second = smaller(load(words, at + 2).units, load(words, at + 3).units);
+    smaller(first, second)
+}
+
+// The fewest units of the first of `n` states: all but three at most, by fours.
+pub(crate) fn least_by_four(words: &[u64], n: usize) -> Least
+    requires { ⌜ (1 ≤ n) × (n * 5 ≤ length (now words)) ⌝ }
+    ensures { λ r. ⌜ (r .seen ≤ n) × Lowest (tableOf (now (words .entry))) (r .seen) (r .units .0) (r .from) ⌝ }
+{
+    let mut units = load(words, 0).units;
+    let mut from: usize = 0;
+    let mut i: usize = 1;
+    while i + 4 <= n {
+        let u = least_of_four(words, i);
+        if u.0 < units.0 {
+            units = u;
+            from = i;
+        }
+        i += 4;
+    }
+    Least {
+        units,
+        from,
+        seen: i,
+    }
+}
+
+// The fewest units of `n` states.
+pub(crate) fn least(words: &[u64], n: usize) -> Least
+    requires { ⌜ (1 ≤ n) × (n * 5 ≤ length (now words)) ⌝ }
+    ensures { λ r. ⌜ Lowest (tableOf (now (words .entry))) n (r .units .0) (r .from) ⌝ }
+{
+    let most = least_by_four(words, n);
+    let mut units = most.units;
+    let mut from = most.from;
+    let mut i = most.seen;
+    while i < n {
+        let u = load(words, i).units;
+        if u.0 < units.0 {
+            units = u;
+            from = i;
+        }
+        i += 1;
+    }
+    Least {
+        units,
+        from,
+        seen: n,
+    }
+}
+
+// The state of fewest units among `n`, the first that has no more than the least, and its partner among the others. Most often a state alike to it stands not
+// far behind it: the first such one is the partner.
 pub(crate) fn choose(words: &[u64], n: usize) -> Pair
     requires { ⌜ (2 ≤ n) × (n * 5 ≤ length (now words)) × (rising (take n (tableOf (now words))) ≡ true) ⌝ }
     ensures { λ r. ⌜ r ≡ choice (take n (tableOf (now (words .entry)))) ⌝ }
 {
-    let mut fewest: usize = 0;
-    let mut units = load(words, 0).units;
-    let mut i: usize = 1;
+    let lowest = least(words, n);
+    let units = lowest.units;
+    let mut fewest = lowest.from;
     let found = 'search: loop {
-        if i < n {
-            let u = load(words, i).units;
-            if u.0 < units.0 {
-                fewest = i;
-                units = u;
-            }
-            i += 1;
+        let s = load(words, fewest);
+        let u = s.units;
+        if units.0 < u.0 {
+            fewest += 1;
         } else {
-            let s = load(words, fewest);
             if !stands_first(words, fewest, s) {
                 break 'search Pair {
                     fewest,
-                    partner: nearest_of_all(words, n, fewest, s),
+                    partner: nearest_of_all(words, n, fewest, s, size_of(s.mask)),
                 };
             }
             let mut j = fewest + 1;
@@ -304,6 +427,22 @@ pub(crate) fn set_aside(aside: Units, s: State, t: State, m: State) -> Units
     first.add(changed(t, m))
 }
 
+// What the two become, with `units`. Most often their filled numbers are the same.
+pub(crate) fn made_one(s: State, t: State, units: Units) -> State
+    ensures { λ r. ⌜ r ≡ meetOf s t (units .0) ⌝ }
+{
+    let filled = s.filled;
+    if same_filled(filled, t.filled) {
+        return State {
+            mask: s.mask & t.mask,
+            misses: larger(s.misses, t.misses),
+            filled,
+            units,
+        };
+    }
+    meet(s, t, units)
+}
+
 // One fold of the first `n` states.
 pub(crate) fn fold_once(words: &mut [u64], n: usize, aside: Units) -> Tally
     requires { ⌜ (2 ≤ n) × (n * 5 ≤ length (now words)) × (rising (take n (tableOf (now words))) ≡ true) ⌝ }
@@ -316,7 +455,7 @@ pub(crate) fn fold_once(words: &mut [u64], n: usize, aside: Units) -> Tally
     let t = load(words, p);
     let u = s.units;
     let v = t.units;
-    let m = meet(s, t, u.add(v));
+    let m = made_one(s, t, u.add(v));
     Tally {
         states: replace(words, n, i, p, m),
         aside: set_aside(aside, s, t, m),

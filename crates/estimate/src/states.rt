@@ -12,6 +12,13 @@ pub(crate) struct Tally {
     pub aside: Units,
 }
 
+// The fewest units of the first `seen` states; those before place `from` have more.
+pub(crate) struct Least {
+    pub units: Units,
+    pub from: usize,
+    pub seen: usize,
+}
+
 // `units` of the shared blocks, the larger miss count and the larger filled number of each set.
 pub(crate) fn meet(s: State, t: State, units: Units) -> State
     ensures { λ r. ⌜ r ≡ meetOf s t (units .0) ⌝ }

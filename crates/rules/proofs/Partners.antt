@@ -1,20 +1,21 @@
 -- The partner of a state in a fold, and where the search for it may stop. A place is the best of a list where it takes over from all before it and none
--- behind it takes over (`first-best`). So the first that reaches a bound of all scores is the best, and nothing behind it needs to be looked at. For a
+-- behind it takes over (`first-best`), and only there (`best-found`). So the first that reaches a bound of all scores is the best, and nothing behind it needs to be looked at. For a
 -- partner there are two bounds. None shares more blocks than those that hold all of them: where some do, it is the nearest of these in misses, the first of
 -- them (`nearest-partner`). And none is nearer than one that has as many misses (`alike-nearest`). In a table such a one stands behind
 -- (`none-alike-before`), since contents that are part of others do not stand later (`holds-not-later`).
 use mathlib.Core.Path.{_≡_, refl, sym, ap, subst, _∙_}
 use mathlib.Core.Logic.{_≢_, _⊎_, inl, inr}
-use mathlib.Core.Bool.{Bool, true, false, cond, _&&_}
+use mathlib.Core.Bool.{Bool, true, false, cond, _&&_, true≢false}
 use mathlib.Core.List.{List, [], _∷_}
 use Prim.Native.Nat.{ℕ, zero, suc, _+_, _-_, _^_, _≤_, _<_, suc-le-suc}
 use native.Mathlib.Nat.{not-suc-le-zero, le-of-suc-le-suc, eq-or-lt-of-le}
-use native.Mathlib.Decide.{ℕ-discrete, decLe}
+use native.Mathlib.Decide.{ℕ-discrete, decLe, decLt}
 use native.Mathlib.Omega.{arith}
 use lib.Bits.{and-le-r}
 use lib.Dec.{eqb, ltb}
 use lib.ListN.{length, getD}
-use borrow.Author.Tests.{lt-ltb, le-ltb, eq-eqb, ne-eqb, ltb-true, ltb-false}
+use borrow.Author.Tests.{lt-ltb, le-ltb, eq-eqb, ne-eqb, eqb-true, ltb-true, ltb-false}
+use Rattle.basics.proofs.Bools.{and-left, and-right, or-cases}
 use Rattle.rules.specs.Contents.{bit, size, shared, without}
 use Rattle.rules.specs.Ordered.{Order, before, same, after, byNumber, thenBy, remove, bestFrom, best}
 use Rattle.rules.specs.Table.{State, order, noState, stateAt}
@@ -36,7 +37,7 @@ module _ {A : Type 0} (better : A → A → Bool) (z : A) where
     pub behind : (i : ℕ) → k < i → i < length T → better (getD T i z) (getD T k z) ≡ false
 
   -- none takes over from s
-  stays : (s : A) (j i : ℕ) (T : List A) → ((p : ℕ) → p < length T → better (getD T p z) s ≡ false) → bestFrom better s j i T ≡ j
+  pub stays : (s : A) (j i : ℕ) (T : List A) → ((p : ℕ) → p < length T → better (getD T p z) s ≡ false) → bestFrom better s j i T ≡ j
   stays s j i [] h = refl
   stays s j i (t ∷ T) h = rw (h 0 (omega arith)) (stays s j (suc i) T (λ p l. h (suc p) (suc-le-suc l)))
 
@@ -75,6 +76,64 @@ module _ {A : Type 0} (better : A → A → Bool) (z : A) where
       }
       (h .ahead 0 (omega arith))
       ∙ (let e : 1 + k ≡ suc k = omega arith in e)
+
+-- And the best is such a place, where being better is a matter of a score: of two only one is better than the other, and what is better than s is better than
+-- whatever is not better than s.
+module _ {A : Type 0} (better : A → A → Bool) (z : A) (turns : (s t : A) → better s t ≡ true → better t s ≡ false)
+    (passes : (s t u : A) → better t s ≡ true → better u s ≡ false → better t u ≡ true) where
+  record Somewhere (T : List A) : Type 0 where
+    pub place : ℕ
+    pub is : Best better z T place
+
+  -- the best of the rest, or the first, if that one is not better than it
+  somewhere : (t : A) (T : List A) → Somewhere (t ∷ T)
+  somewhere t [] =
+      record {
+        place = 0;
+        is = record { within = omega arith; ahead = λ p l. absurd (not-suc-le-zero l); behind = λ p l m. absurd (omega (arith, l, m)) };
+      }
+  somewhere t (u ∷ T) = go (somewhere u T)
+    where
+      go : Somewhere (u ∷ T) → Somewhere (t ∷ u ∷ T)
+      go h = side (better (getD (u ∷ T) (h .place) z) t) refl
+        where
+          there : A
+          there = getD (u ∷ T) (h .place) z
+
+          side : (b : Bool) → better there t ≡ b → Somewhere (t ∷ u ∷ T)
+          side true e = record { place = suc (h .place); is = record { within = suc-le-suc (h .is .within); ahead = ahead; behind = behind } }
+            where
+              ahead : (p : ℕ) → p < suc (h .place) → better there (getD (t ∷ u ∷ T) p z) ≡ true
+              ahead zero l = e
+              ahead (suc p) l = h .is .ahead p (le-of-suc-le-suc l)
+
+              behind : (p : ℕ) → suc (h .place) < p → p < length (t ∷ u ∷ T) → better (getD (t ∷ u ∷ T) p z) there ≡ false
+              behind zero l m = absurd (not-suc-le-zero l)
+              behind (suc p) l m = h .is .behind p (le-of-suc-le-suc l) (le-of-suc-le-suc m)
+          side false e = record { place = 0; is = record { within = omega arith; ahead = λ p l. absurd (not-suc-le-zero l); behind = behind } }
+            where
+              -- none of the rest is better than its best
+              none : (p : ℕ) → p < length (u ∷ T) → better (getD (u ∷ T) p z) there ≡ true → ⊥
+              none p l b = among (decLt p (h .place)) (decLt (h .place) p)
+                where
+                  among : Dec (p < h .place) → Dec (h .place < p) → ⊥
+                  among (yes k) n = true≢false (sym b ∙ turns there (getD (u ∷ T) p z) (h .is .ahead p k))
+                  among (no k) (yes n) = true≢false (sym b ∙ h .is .behind p n l)
+                  among (no k) (no n) =
+                      let d : p ≡ h .place = omega (arith, k, n) in
+                      let c : better there there ≡ true = rw d at b in true≢false (sym c ∙ turns there there c)
+
+              behind : (p : ℕ) → 0 < p → p < length (t ∷ u ∷ T) → better (getD (t ∷ u ∷ T) p z) t ≡ false
+              behind zero l m = absurd (not-suc-le-zero l)
+              behind (suc p) l m = end (better (getD (u ∷ T) p z) t) refl
+                where
+                  end : (b : Bool) → better (getD (u ∷ T) p z) t ≡ b → b ≡ false
+                  end true b = absurd (none p (le-of-suc-le-suc m) (passes t (getD (u ∷ T) p z) there b e))
+                  end false b = refl
+
+  pub best-found : (T : List A) → 0 < length T → Best better z T (best better T)
+  best-found [] l = absurd (not-suc-le-zero l)
+  best-found (t ∷ T) l = let h = somewhere t T in rw (first-best better z (t ∷ T) (h .place) (h .is)) (h .is)
 
 -- ---- the others than the one at place i
 
@@ -144,7 +203,7 @@ module _ {A : Type 0} (z : A) where
       go false e = others-behind i j T (ltb-false j i e)
 
 -- a place of the others is a place of the list
-past-within : (i j n : ℕ) → suc j < n → past i j < n
+pub past-within : (i j n : ℕ) → suc j < n → past i j < n
 past-within i j n l = go (ltb j i)
   where
     go : (b : Bool) → cond b j (suc j) < n
@@ -227,12 +286,53 @@ module _ (s t u : State) where
   closer-by-misses e l =
       rw (le-ltb (sharing s u) (sharing s t) (omega arith), eq-eqb (sharing s u) (sharing s t) e, lt-ltb (apart s t) (apart s u) l)
 
-  not-closer : sharing s t ≤ sharing s u → (sharing s u ≡ sharing s t → apart s u ≤ apart s t) → closer s t u ≡ false
+  pub not-closer : sharing s t ≤ sharing s u → (sharing s u ≡ sharing s t → apart s u ≤ apart s t) → closer s t u ≡ false
   not-closer l h = rw (le-ltb (sharing s u) (sharing s t) l) (go (ℕ-discrete (sharing s u) (sharing s t)))
     where
       go : Dec (sharing s u ≡ sharing s t) → (eqb (sharing s u) (sharing s t) && ltb (apart s t) (apart s u)) ≡ false
       go (yes e) = rw (eq-eqb (sharing s u) (sharing s t) e, le-ltb (apart s t) (apart s u) (h e))
       go (no n) = rw (ne-eqb (sharing s u) (sharing s t) n)
+
+  closer-so : closer s t u ≡ true → (sharing s u < sharing s t) ⊎ ((sharing s u ≡ sharing s t) × (apart s t < apart s u))
+  closer-so e = go (or-cases (ltb (sharing s u) (sharing s t)) _ e)
+    where
+      go : (ltb (sharing s u) (sharing s t) ≡ true) ⊎ ((eqb (sharing s u) (sharing s t) && ltb (apart s t) (apart s u)) ≡ true)
+          → (sharing s u < sharing s t) ⊎ ((sharing s u ≡ sharing s t) × (apart s t < apart s u))
+      go (inl a) = inl (ltb-true _ _ a)
+      go (inr a) = inr (eqb-true _ _ (and-left (eqb (sharing s u) (sharing s t)) _ a), ltb-true _ _ (and-right (eqb (sharing s u) (sharing s t)) _ a))
+
+  closer-not : closer s t u ≡ false → (sharing s t ≤ sharing s u) × (sharing s u ≡ sharing s t → apart s u ≤ apart s t)
+  closer-not e = (blocks (decLe (sharing s t) (sharing s u)), λ d. misses d (decLe (apart s u) (apart s t)))
+    where
+      blocks : Dec (sharing s t ≤ sharing s u) → sharing s t ≤ sharing s u
+      blocks (yes l) = l
+      blocks (no l) = absurd (true≢false (sym (closer-by-blocks (omega (arith, l))) ∙ e))
+
+      misses : sharing s u ≡ sharing s t → Dec (apart s u ≤ apart s t) → apart s u ≤ apart s t
+      misses d (yes l) = l
+      misses d (no l) = absurd (true≢false (sym (closer-by-misses d (omega (arith, l))) ∙ e))
+
+-- it is a matter of a score
+closer-turns : (s t u : State) → closer s t u ≡ true → closer s u t ≡ false
+closer-turns s t u e = go (closer-so s t u e)
+  where
+    go : (sharing s u < sharing s t) ⊎ ((sharing s u ≡ sharing s t) × (apart s t < apart s u)) → closer s u t ≡ false
+    go (inl l) = not-closer s u t (omega arith) (λ d. absurd (omega (arith, d, l)))
+    go (inr (d, l)) = not-closer s u t (omega arith) (λ k. omega arith)
+
+closer-passes : (s t u v : State) → closer s u t ≡ true → closer s v t ≡ false → closer s u v ≡ true
+closer-passes s t u v e f = go (closer-so s u t e) (decLt (sharing s v) (sharing s u))
+  where
+    go : (sharing s t < sharing s u) ⊎ ((sharing s t ≡ sharing s u) × (apart s u < apart s t)) → Dec (sharing s v < sharing s u) → closer s u v ≡ true
+    go a (yes l) = closer-by-blocks s u v l
+    go (inl a) (no l) = absurd (omega (arith, a, l, closer-not s v t f .0))
+    go (inr (d, a)) (no l) =
+        let k : sharing s v ≡ sharing s u = omega (arith, d, l, closer-not s v t f .0) in
+        closer-by-misses s u v k (omega (arith, a, closer-not s v t f .1 (d ∙ sym k)))
+
+-- the partner that document 01 chooses is better than each before it, and none behind it is better
+pub partner-found : (s : State) (R : List State) → 0 < length R → Best (closer s) noState R (best (closer s) R)
+partner-found s R l = best-found (closer s) noState (closer-turns s) (closer-passes s) R l
 
 -- of the others than the one at place i that hold all blocks of s, the one at place p is the nearest in misses, and the first of these
 pub record NearestHolder (s : State) (T : List State) (i p : ℕ) : Type 0 where

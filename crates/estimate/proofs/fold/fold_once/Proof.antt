@@ -62,7 +62,7 @@ returns c =
     let t = tableOf (now (a .words)) in
     let room : a .n ≤ length t = fits-table (now (a .words)) (a .n) (omega (arith, x .pre .1)) in
     fold-stands t (a .n) room (x .pre .0) _ (p .before .choose .ensures) _ (p .place-past .ensures) _ _ _ _
-    (s₂ .load .ensures) (t₂ .load2 .ensures) (m .before .add .ensures) (m .meet .ensures) _ _ _ _ (c .before .before .before .replace .ensures) (c .set-aside .ensures)
+    (s₂ .load .ensures) (t₂ .load2 .ensures) (m .before .add .ensures) (m .made-one .ensures) _ _ _ _ (c .before .before .before .replace .ensures) (c .set-aside .ensures)
 
 pub fold-once-spec : {M : Type 1} → statement M
 fold-once-spec =

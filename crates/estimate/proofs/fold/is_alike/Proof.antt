@@ -1,14 +1,14 @@
--- `is_alike` looks at the misses only where all blocks are held.
-use borrow.Author.Needs.{needs}
-use Rattle.estimate.proofs.Partnering.{both-so, first-not}
+-- `is_alike` makes one test of two.
+use Rattle.rules.specs.Contents.{shared}
+use Rattle.estimate.proofs.Partnering.{one-test}
 use Rattle.estimate.proofs.fold.is_alike.Statement.{statement}
 use Rattle.estimate.proofs.fold.is_alike.Tie as tie
 
 returns : tie.Need-returns
-returns c = both-so _ _ _ (c .before .before .before .holds-all .ensures) (c .before .before .if1 .taken)
-
-returns-2 : tie.Need-returns-2
-returns-2 c = first-not _ _ _ (c .before .holds-all .ensures) (c .if1 .left)
+unfolding shared
+returns c =
+    let a = c .before .before .before .before .before .args in
+    one-test (shared (a .s .mask) (a .t .mask)) (a .s .mask) (a .s .misses) (a .t .misses)
 
 pub is-alike-spec : {M : Type 1} → statement M
-is-alike-spec = tie.close (tie.spec (λ c κs. search needs) returns returns-2)
+is-alike-spec = tie.close (tie.spec returns)

@@ -2,7 +2,6 @@
 use borrow.Author.Needs.{needs}
 use borrow.Author.Tests.{eq-eqb}
 use Rattle.estimate.proofs.Partnering.{nearer-so, nearer-not}
-use Rattle.estimate.proofs.Partnering.{}
 use Rattle.estimate.proofs.fold.is_nearer.Statement.{statement}
 use Rattle.estimate.proofs.fold.is_nearer.Tie as tie
 

@@ -1,13 +1,13 @@
--- `nearest_holder` goes through all places; it stops where one is found that is one miss apart.
+-- `nearest_holder` goes through the places behind the first; it stops where one is found that is one miss apart.
+use mathlib.Core.Path.{sym, _∙_}
 use mathlib.Core.Logic.{⊎-elim}
 use Prim.Native.Nat.{_-_, _≤_}
 use native.Mathlib.Omega.{arith}
 use denote.Ref.{now}
 use lib.ListN.{length, take}
 use lib.Seq.{length-take-le, getD-take}
-use mathlib.Core.Path.{sym}
-use Rattle.rules.specs.Table.{noState}
 use borrow.Author.Needs.{needs}
+use Rattle.rules.specs.Table.{noState}
 use Rattle.words.specs.Tables.{tableOf}
 use Rattle.words.proofs.Tables.{fits-table}
 use Rattle.estimate.proofs.Partnering.{Seen, seen-start, seen-nearer, seen-other, seen-all, seen-stop}
@@ -15,34 +15,37 @@ use Rattle.estimate.proofs.fold.nearest_holder.Statement.{statement}
 use Rattle.estimate.proofs.fold.nearest_holder.Tie as tie
 
 abbrev Inv-loop : tie.InvT-loop
-Inv-loop words n at s found₀ near₀ j₀ found near j = (j ≤ n) × Seen s (take n (tableOf words)) at found near j
+Inv-loop words n at s first found₀ near₀ j₀ found near j = (j ≤ n) × Seen s (take n (tableOf words)) at found near j
 
 abbrev μ-loop : tie.MeasureT-loop
-μ-loop words n at s found₀ near₀ j₀ found near j = n - j
+μ-loop words n at s first found₀ near₀ j₀ found near j = n - j
 
 loop-holds : tie.Need-loop-holds Inv-loop μ-loop
 loop-holds c =
-    let a = c .before .args in
+    let b = c .before .before .before in
+    let a = b .args in
     let t = tableOf (now (a .words)) in
-    let room : a .n ≤ length t = fits-table (now (a .words)) (a .n) (omega arith) in
-    (search needs, seen-start (a .s) (take (a .n) t) (a .at) (a .n) _ (length-take-le (a .n) t room))
+    let there = b .pre .4 in (
+      search needs,
+      seen-start (a .s) (take (a .n) t) (a .at) (a .n) (a .first) (b .pre .5) there _
+          (c .before .load .ensures ∙ sym (getD-take (a .n) t (a .first) noState there)) _ (c .apart .ensures),
+    )
 
 returns : tie.Need-returns Inv-loop μ-loop
 returns c =
     let l = c .before .before in
-    let a = l .before .before .args in
+    let b = l .before .before .before .before in
+    let a = b .args in
     let t = tableOf (now (a .words)) in
     let room : a .n ≤ length t = fits-table (now (a .words)) (a .n) (omega arith) in
     let long = length-take-le (a .n) t room in
-    λ b. seen-stop (a .s) (take (a .n) t) (a .at) (omega arith) (omega (arith, long)) _ _ _ (l .loop .inv .1) (c .if1 .taken) (l .before .before .pre .3)
-    (omega (arith, long, b))
+    seen-stop (a .s) (take (a .n) t) (a .at) (omega arith) (omega (arith, long)) _ _ _ (l .loop .inv .1) (omega (arith, long)) (c .if1 .taken) (b .pre .3)
 
 loop-again : tie.Need-loop-again Inv-loop μ-loop
 loop-again c =
     let l = c .before .before .before .before in
-    let a = l .before .before .args in
+    let a = l .before .before .before .before .args in
     let t = tableOf (now (a .words)) in
-    let room : a .n ≤ length t = fits-table (now (a .words)) (a .n) (omega arith) in
     let here = sym (getD-take (a .n) t (l .loop .j) noState (c .before .before .before .loop-test .taken)) in
     let said = c .before .is-nearer .ensures in
     let h = l .loop .inv .1 in (
@@ -56,12 +59,11 @@ loop-again c =
 returns-2 : tie.Need-returns-2 Inv-loop μ-loop
 returns-2 c =
     let l = c .before in
-    let a = l .before .before .args in
+    let a = l .before .before .before .before .args in
     let t = tableOf (now (a .words)) in
     let room : a .n ≤ length t = fits-table (now (a .words)) (a .n) (omega arith) in
     let long = length-take-le (a .n) t room in
-    λ b. seen-all (a .s) (take (a .n) t) (a .at) (omega arith) (omega (arith, long)) _ _ _ (l .loop .inv .1) (omega (arith, long, c .loop-test .left))
-    (omega (arith, long, b))
+    seen-all (a .s) (take (a .n) t) (a .at) (omega arith) (omega (arith, long)) _ _ _ (l .loop .inv .1) (omega (arith, long)) (omega (arith, long, c .loop-test .left))
 
 pub nearest-holder-spec : {M : Type 1} → statement M
 nearest-holder-spec =
@@ -69,6 +71,9 @@ nearest-holder-spec =
     (tie.spec
     Inv-loop
     μ-loop
+    (λ c κs. search needs)
+    (λ c κs. search needs)
+    (λ c. search needs)
     loop-holds
     returns
     (λ c κs. search needs)

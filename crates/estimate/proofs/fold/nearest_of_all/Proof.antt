@@ -1,4 +1,4 @@
--- `nearest_of_all` searches place by place: the search for the partner has come to place `j`.
+-- `nearest_of_all` searches place by place: the search for the partner has come to place `j`. It stops at one that none can beat.
 use mathlib.Core.Logic.{⊎-elim}
 use Prim.Native.Nat.{suc, _-_, _≤_, _<_}
 use native.Mathlib.Omega.{arith}
@@ -8,16 +8,16 @@ use borrow.Author.Needs.{needs}
 use Rattle.rules.specs.Ordered.{remove}
 use Rattle.words.specs.Tables.{tableOf}
 use Rattle.words.proofs.Tables.{fits-table}
-use Rattle.estimate.proofs.Folding.{other-within, Nearest, partner-start, partner-closer, partner-other, partner-end}
+use Rattle.estimate.proofs.Folding.{other-within, Nearest, partner-start, partner-closer, partner-other, partner-end, partner-stop}
 use Rattle.estimate.proofs.fold.nearest_of_all.Statement.{statement}
 use Rattle.estimate.proofs.fold.nearest_of_all.Tie as tie
 
 abbrev Inv-loop : tie.InvT-loop
-Inv-loop words n at s partner₀ most₀ near₀ j₀ partner most near j =
+Inv-loop words n at s bound partner₀ most₀ near₀ j₀ partner most near j =
     (j < n) × Nearest s (remove at (take n (tableOf words))) partner most near j
 
 abbrev μ-loop : tie.MeasureT-loop
-μ-loop words n at s partner₀ most₀ near₀ j₀ partner most near j = n - j
+μ-loop words n at s bound partner₀ most₀ near₀ j₀ partner most near j = n - j
 
 load-requires : tie.Need-load-requires Inv-loop μ-loop
 load-requires c κs =
@@ -37,16 +37,24 @@ loop-holds c =
           (partner-start t (a .n) room (a .at) (omega arith) _ _ _ (omega arith) place there),
     )
 
+returns : tie.Need-returns Inv-loop μ-loop
+returns c =
+    let l = c .before .before .before in
+    let b = l .before .before .before .before .before .before in
+    let t = tableOf (now (b .args .words)) in
+    let room : b .args .n ≤ length t = fits-table (now (b .args .words)) (b .args .n) (omega arith) in
+    partner-stop t (b .args .n) room (b .args .at) (omega arith) (b .args .s) _ _ _ _ _ _ (c .before .is-unbeaten .ensures) (c .if1 .taken) (b .pre .3) (l .loop .inv .1)
+
 load-requires-2 : tie.Need-load-requires-2 Inv-loop μ-loop
 load-requires-2 c κs =
-    let l = c .before .before in
+    let l = c .before .before .before .before in
     let a = l .before .before .before .before .before .before .args in
     let within : c .place-past2 .result < a .n = other-within (a .at) (l .loop .j) (c .place-past2 .result) (a .n) (c .place-past2 .ensures) (omega arith) in
     omega arith
 
 loop-again : tie.Need-loop-again Inv-loop μ-loop
 loop-again c =
-    let l = c .before .before .before .before .before in
+    let l = c .before .before .before .before .before .before .before in
     let a = l .before .before .before .before .before .before .args in
     let t = tableOf (now (a .words)) in
     let room : a .n ≤ length t = fits-table (now (a .words)) (a .n) (omega arith) in
@@ -60,11 +68,11 @@ loop-again c =
       ⊎-elim
           (λ w. rw (w .3, w .4, w .5, w .1 .ensures, w .2 .ensures) (partner-closer t (a .n) room _ within _ _ _ _ next place there _ _ _ _ said h (w .0 .taken)))
           (λ w. rw (w .1, w .2, w .3) (partner-other t (a .n) room _ within _ _ _ _ next place there _ _ _ _ said h (w .0 .left)))
-          (c .if1 .came),
+          (c .if2 .came),
     )
 
-returns : tie.Need-returns Inv-loop μ-loop
-returns c =
+returns-2 : tie.Need-returns-2 Inv-loop μ-loop
+returns-2 c =
     let l = c .before in
     let a = l .before .before .before .before .before .before .args in
     let t = tableOf (now (a .words)) in
@@ -84,6 +92,8 @@ nearest-of-all-spec =
     loop-holds
     (λ c. search needs)
     (λ c κs. search needs)
+    returns
+    (λ c κs. search needs)
     load-requires-2
     (λ c κs. search needs)
     (λ c κs. search needs)
@@ -91,4 +101,4 @@ nearest-of-all-spec =
     (λ c. search needs)
     (λ c. search needs)
     loop-again
-    returns)
+    returns-2)
