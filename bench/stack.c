@@ -42,6 +42,17 @@ static void call_graph(void)
                    ESTIMATE_WORK_WORDS, &states, &value);
 }
 
+/* Entries for the joins: none for each of a heavy input, and a pairing for the one of a small graph. */
+static uint64_t join_counts[INPUT_EDGES_ROOM], join_rows[12];
+static size_t joins, row_numbers;
+
+static void call_graph_paired(void)
+{
+    estimate_graph_paired(input.sets, input.ways, input.revision, input.start, input.limit, input.tracked, input.tracked_count, input.runs, input.nodes,
+                          input.accesses, input.access_count, input.edges, input.edge_numbers, join_counts, joins, join_rows, row_numbers, table,
+                          ESTIMATE_RESULT_WORDS, work, ESTIMATE_WORK_WORDS, &states, &value);
+}
+
 static void call_longest_path(void)
 {
     estimate_longest_path(input.sets, input.ways, input.revision, input.start, input.limit, input.tracked, input.tracked_count, input.runs,
@@ -126,6 +137,7 @@ static struct measured functions[] = {
     {"best", call_best, 0},
     {"best_miss_spread", call_best_miss_spread, 0},
     {"best_hit_spread", call_best_hit_spread, 0},
+    {"graph_paired", call_graph_paired, 0},
 };
 #define FUNCTIONS (sizeof functions / sizeof *functions)
 
@@ -157,10 +169,32 @@ static void measure_input(void)
     text_of_numbers(&from, &numbers, &text);
     graphs[0] = (uint32_t)numbers.count;
     memcpy(graphs + 1, numbers.list, numbers.count * sizeof *graphs);
+    joins = input.edge_numbers / 2 + 1 - input.nodes;
+    for (size_t j = 0; j < joins; j++)
+        join_counts[j] = ESTIMATE_NO_PAIRING;
     measure(&functions[0]);
     memcpy(row, table, sizeof row);
     for (size_t i = 1; i < FUNCTIONS; i++)
         measure(&functions[i]);
+}
+
+/* The graph call with the pairing of docs/PLANNER.md. */
+static void measure_pairing(void)
+{
+    static const struct input small = {.sets = 1, .ways = 2, .revision = ESTIMATE_FIRST_REVISION, .start = ESTIMATE_COLD, .limit = 64, .tracked_count = 3, .nodes = 4,
+                                       .access_count = 6, .edge_numbers = 8, .tracked = {4, 5, 6}, .runs = {1, 1, 2, 2}, .accesses = {4, 5, 6, 5, 4, 5},
+                                       .edges = {0, 1, 0, 2, 1, 3, 2, 3}};
+    static const uint64_t quarter = ESTIMATE_WHOLE / 4, places_paired[4][2] = {{0, 0}, {0, 2}, {1, 1}, {1, 2}};
+    input = small;
+    joins = 1;
+    join_counts[0] = 4;
+    row_numbers = 12;
+    for (size_t r = 0; r < 4; r++) {
+        join_rows[3 * r] = places_paired[r][0];
+        join_rows[3 * r + 1] = places_paired[r][1];
+        join_rows[3 * r + 2] = quarter;
+    }
+    measure(&functions[FUNCTIONS - 1]);
 }
 
 static void print(const struct measured *function)
@@ -173,6 +207,7 @@ int main(void)
     measure(&first);
     for (size_t i = 0; i < HEAVY_INPUTS && make_heavy_input(i, &input) != NULL; i++)
         measure_input();
+    measure_pairing();
     for (uint64_t i = 0; i < LISTINGS; i++) {
         struct generator from = generator_of(1, i);
         (i % 2 == 0 ? make_listing : make_border_listing)(&from, &tokens);

@@ -1,7 +1,7 @@
 /* The estimate of instruction-cache misses, for C: the graph call, the longest path, the questions put to a finished table, curves as text, the trace
- * recorder's blocks read, judged and written, the graph of a listing, the nightly build, and the best case.
+ * recorder's blocks read, judged and written, the graph of a listing, the nightly build, the best case, and the graph call with pairings.
  *
- * Every function ends with an answer or a refusal, whatever the numbers are. A refusal writes nothing, but that reading a trace says which block is damaged; the
+ * Every function ends with an answer or a refusal, whatever the numbers are. A refusal writes nothing, but that reading a trace says which block is damaged and that ESTIMATE_PAIRING leaves the working room zero; the
  * functions for curves write it as a line of text, and leave all other rooms as they were but the room for a text's numbers, which is zero afterwards.
  * A stretch of memory is passed as a pointer and how many elements it has; an empty one may be NULL and 0. A pointer to one value (states, aside, units, budget,
  * largest, longest, cycles, count, place, blocks, nodes, access_count, edge_count, and those of a report) is never NULL, and what is lent for writing overlaps nothing else that is passed: these
@@ -9,8 +9,8 @@
  *
  * A call keeps no state: nothing is left of it but what it wrote to the memory that it was lent. So the functions are reentrant, and calls may run at the same
  * time, in threads or one interrupting another, as long as what each is lent for writing is lent to it alone. They use no heap, and no memory but what they
- * are lent and the stack, of which 8,192 bytes are enough: only those below estimate_listing call each other, 8 deep at most, and a painted stack showed 2,184 bytes for
- * the graph call, 664 for the best case, 2,968 for a curve's text, 3,864 for a listing 8 deep, 5,096 for the nightly build and 5,704 for the deepest, a question put to a row of
+ * are lent and the stack, of which 8,192 bytes are enough: only those below estimate_listing call each other, 8 deep at most, and a painted stack showed 2,632 bytes for
+ * the graph call, 664 for the best case, 3,416 for a curve's text, 3,864 for a listing 8 deep, 5,544 for the nightly build and 5,704 for the deepest, a question put to a row of
  * states, on each of the large inputs that were tried.
  *
  * Linked from libestimate_c.a, for x86-64, which takes of the C library only memcpy and memset. `rt staticlib estimate_c` makes it:
@@ -24,7 +24,7 @@
 #include <stdint.h>
 
 /* The version of what is declared here: it rises where a function, a constant or what a call gives changes. */
-#define ESTIMATE_VERSION 8
+#define ESTIMATE_VERSION 9
 
 #ifdef __cplusplus
 extern "C" {
@@ -83,6 +83,10 @@ struct estimate_best_state {
 #define ESTIMATE_LISTING_ACCESSES 4096
 #define ESTIMATE_LISTING_EDGE_NUMBERS 4032
 
+/* For a join: no pairing; and the most rows of one. */
+#define ESTIMATE_NO_PAIRING UINT64_MAX
+#define ESTIMATE_PAIRING_ROWS 1088
+
 /* The nightly build: the most graphs in one call, the words of a graph's row, and of the working room that the call has to have. */
 #define ESTIMATE_MOST_GRAPHS 256
 #define ESTIMATE_ROW_WORDS 5
@@ -112,6 +116,7 @@ enum estimate_refusal {
     ESTIMATE_NO_CORE = 16,    /* no such core */
     ESTIMATE_UNTRACKED_ACCESS = 17, /* an accessed block is not tracked: the best case */
     ESTIMATE_FIRST_REVISION_ONLY = 18, /* revision 2: the best case is of the first alone */
+    ESTIMATE_PAIRING = 19,    /* entries for more or fewer joins than the graph has, or a pairing that is not accepted */
     ESTIMATE_NIGHTLY = 20,    /* more than 256 graphs, counts that do not use the list up exactly, or fewer rows than graphs */
     ESTIMATE_TRACE_ROOM = 21, /* room for fewer than 125 accesses a block, one place a block, or the blocks to be written */
     ESTIMATE_LISTING_ROOM = 22 /* room for fewer than 64 run lengths, 4,096 accesses or 2,016 edges */
@@ -130,6 +135,22 @@ uint64_t estimate_graph(uint32_t sets, uint32_t ways, uint32_t revision, bool wa
                         uint64_t *result, size_t result_words,
                         uint64_t *work, size_t work_words,
                         size_t *states, uint64_t *aside);
+
+/* The graph call with a pairing or none for each join, in working order: nodes rising, within a node the second predecessor, the third and so on. `counts` has a number for
+ * each join: how many rows its pairing has, or ESTIMATE_NO_PAIRING for none, where both tables are walked from the front. `rows` has the rows of all pairings one behind the
+ * other, three numbers each: a place in the table joined so far, a place in the joined one, and units. All else as estimate_graph. Gives ESTIMATE_PAIRING, after
+ * ESTIMATE_ROOM, for entries for more or fewer joins than the graph has, a pairing of more than ESTIMATE_PAIRING_ROWS rows, rows left over or missing, a row of 0 units or of a
+ * place that is not there, or units of a state that are not used exactly: `result` and the two numbers stay as they were, and `work` is zero. */
+uint64_t estimate_graph_paired(uint32_t sets, uint32_t ways, uint32_t revision, bool warm, uint32_t limit,
+                               const uint32_t *tracked, size_t tracked_count,
+                               const uint32_t *runs, size_t nodes,
+                               const uint32_t *accesses, size_t access_count,
+                               const uint32_t *edges, size_t edge_numbers,
+                               const uint64_t *counts, size_t joins,
+                               const uint64_t *rows, size_t row_numbers,
+                               uint64_t *result, size_t result_words,
+                               uint64_t *work, size_t work_words,
+                               size_t *states, uint64_t *aside);
 
 /* The questions take the first `states` states of a table in words, as the graph call left it, or all that the words hold if there are fewer. Each gives
  * ESTIMATE_DONE or ESTIMATE_ROW, and estimate_spread may also give ESTIMATE_SPREAD_ROOM; a refusal writes nothing. */

@@ -26,6 +26,7 @@ struct call {
 
 static const struct call calls[] = {
     {"graph", answer_graph},
+    {"pair", answer_pair},
     {"spread", answer_spread},
     {"above", answer_above},
     {"smallest", answer_smallest},

@@ -79,6 +79,7 @@ void print_state(const uint64_t *state, size_t sets);
 
 /* The kinds of calls. */
 bool answer_graph(const struct words *words);
+bool answer_pair(const struct words *words);
 bool answer_spread(const struct words *words);
 bool answer_above(const struct words *words);
 bool answer_smallest(const struct words *words);

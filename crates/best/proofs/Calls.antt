@@ -12,7 +12,7 @@ use Rattle.rules.specs.declared.Verdict.{Verdict}
 use Rattle.rules.specs.declared.Verdict.the-variants.{Accepted, Refused}
 use Rattle.rules.specs.declared.BestOutcome.the-variants.{Finished, Refused as RefusedBest}
 use Rattle.rules.specs.Input.{Input, cache, inputOf, nodes}
-use Rattle.rules.specs.AnyTable.{finished as finishedAny}
+use Rattle.rules.specs.AnyTable.{noPairings, finishedBy as finishedAny}
 use Rattle.rules.specs.Best.{kind, bestTable}
 use Rattle.rules.specs.Refusals.{bestVerdict, bestOutcome}
 use Rattle.rules.proofs.Refusals.{Checked, best-accepted}
@@ -75,7 +75,7 @@ module _ (Z N v K : ℕ) (ts ns bs es rs ws : List ℕ) (T : List BestState) (so
   unfolding finishedAny
   last-table =
       sym (tablesIn-at (length ns) T (length ns - 1) (omega arith))
-      ∙ ap (λ (d : Worked). tableAt d (length ns - 1)) (done ∙ same-worked-any (cache Z N v cold) K ts ns bs es (length rs / 5) (length ws / 5) kind refl (length ns))
+      ∙ ap (λ (d : Worked). tableAt d (length ns - 1)) (done ∙ same-worked-any (cache Z N v cold) K ts ns bs es (length rs / 5) (length ws / 5) kind refl noPairings (length ns))
 
 -- which the result room has room for
 pub finished-fits : (i : Input) → Checked i → length (finished i .table) ≤ i .limit

@@ -10,7 +10,7 @@ use borrow.Author.Tests.{eq-eqb, ne-eqb}
 use Rattle.rules.specs.declared.BestState.{BestState}
 use Rattle.rules.specs.declared.Last.the-variants.{Unknown as unknown}
 use Rattle.rules.specs.Contents.{among}
-use Rattle.rules.specs.AnyTable.{enter as enterAny, joinAll as joinAllAny, node as nodeAny, worked as workedAny}
+use Rattle.rules.specs.AnyTable.{enterBy as enterAny, joinAllBy as joinAllAny, nodeBy as nodeAny, workedBy as workedAny}
 use Rattle.rules.specs.Best.{listing}
 use Rattle.rules.specs.Lasts.{lastBefore, lastsTo}
 use Rattle.rules.specs.Shape.{Every, Present, BestLoose}

@@ -13,7 +13,7 @@ use Rattle.rules.specs.declared.Pair.{Pair}
 use Rattle.rules.specs.declared.Target.{Target}
 use Rattle.rules.specs.Contents.{among, size, shared, targetOf}
 use Rattle.rules.specs.Input.{Input, nodes, offset}
-use Rattle.rules.specs.AnyTable.{access as accessAny, advance as advanceAny, run as runAny}
+use Rattle.rules.specs.AnyTable.{noPairings, access as accessAny, advance as advanceAny, run as runAny}
 use Rattle.rules.specs.Best.{successors as successorsOf, miss as missOf, listing, kind}
 use Rattle.rules.specs.Shape.{Every, Aimed}
 use Rattle.rules.proofs.Lists.{every-weaker}
@@ -137,28 +137,28 @@ module _ (N Z : ℕ) (ts : List ℕ) (few : N ≤ 16) where
 
   pub table-enter : (K : ℕ) → 0 < K → (M : ℕ) (d : Worked) (is : List ℕ) → ((j : ℕ) → among is j ≡ true → Table N Z ts K M (tableAt d j))
       → Table N Z ts K M (enter K begins d is .table)
-  table-enter K room M d is h = sound-enter (best-keep N Z ts few) K room M d begins (best-start N Z ts few) is h
+  table-enter K room M d is h = sound-enter (best-keep N Z ts few) K room M d noPairings begins (best-start N Z ts few) is h
 
 -- ---- nodes
 
 abbrev pub nodeTable : Input → ℕ → List BestState
-nodeTable i j = nodeTableOf kind i j
+nodeTable i j = nodeTableOf kind noPairings i j
 
 pub table-stays : (i : Input) (n j : ℕ) → j < n → tableAt (worked i n) j ≡ nodeTable i j
-table-stays i n j l = table-stays-any kind i n j l
+table-stays i n j l = table-stays-any kind noPairings i n j l
 
 pub finished-table : (i : Input) → 0 < nodes i → finished i .table ≡ nodeTable i (nodes i - 1)
-finished-table i h = finished-table-any kind i h
+finished-table i h = finished-table-any kind noPairings i h
 
 module _ (i : Input) (ok : Checked i) where
   -- the hits and misses of the first n nodes are at most the accesses of their runs
   pub every-node : (n : ℕ) → n ≤ nodes i → (j : ℕ) → j < n → Table (i .ways) (i .sets) (i .tracked) (i .limit) (offset (i .lengths) n) (nodeTable i j)
   every-node n l j k =
       table-wider (i .ways) (i .sets) (i .tracked) (ok .few-ways) (i .limit) _ _ (nodeTable i j) (offset-rises (i .lengths) (suc j) n k)
-      (sound-so-far i ok (best-follow (i .ways) (i .sets) (i .tracked) (ok .some-ways) (ok .few-ways)) (best-start (i .ways) (i .sets) (i .tracked) (ok .few-ways))
+      (sound-so-far noPairings i ok (best-follow (i .ways) (i .sets) (i .tracked) (ok .some-ways) (ok .few-ways)) (best-start (i .ways) (i .sets) (i .tracked) (ok .few-ways))
       (aimed (i .sets) (i .tracked) (ok .some-sets) (ok .few-sets)) j (omega arith))
 
   pub node-table : (j : ℕ) → j < nodes i → Table (i .ways) (i .sets) (i .tracked) (i .limit) (length (i .accesses)) (nodeTable i j)
   node-table =
-      node-sound i ok (best-follow (i .ways) (i .sets) (i .tracked) (ok .some-ways) (ok .few-ways)) (best-start (i .ways) (i .sets) (i .tracked) (ok .few-ways))
+      node-sound noPairings i ok (best-follow (i .ways) (i .sets) (i .tracked) (ok .some-ways) (ok .few-ways)) (best-start (i .ways) (i .sets) (i .tracked) (ok .few-ways))
       (aimed (i .sets) (i .tracked) (ok .some-sets) (ok .few-sets))

@@ -1,6 +1,7 @@
 // One graph, one state limit: the graph call is made, and its table held to every path's choice sequences.
 use crate::cache::found;
 use crate::cycles::hold_cycles;
+use crate::joined::examine_joined;
 use crate::numbers::TOO_LARGE;
 use crate::numbers::WHOLE;
 use crate::numbers::power;
@@ -294,7 +295,7 @@ fn examine_paths(
 }
 
 // The finished table is the first `states` states of `result`. Of all paths the longest one has as many accesses as was told.
-fn examine_result(
+pub(crate) fn examine_result(
     result: &[u64],
     states: usize,
     best: &[u64],
@@ -329,7 +330,7 @@ fn examine_result(
 }
 
 // The accesses of the longest path; where it is refused, a number that no path has.
-fn accesses_of(answer: Length) -> u64 {
+pub(crate) fn accesses_of(answer: Length) -> u64 {
     match answer {
         Length::Accesses(accesses) => accesses,
         Length::Refused(_) => TOO_LARGE,
@@ -345,7 +346,7 @@ fn is_whole(table: &[u64]) -> bool {
 }
 
 // What the calls told of a graph.
-fn told_of(aside: Units, longest: u64) -> Told {
+pub(crate) fn told_of(aside: Units, longest: u64) -> Told {
     Told {
         aside: aside.0,
         longest,
@@ -455,7 +456,7 @@ fn examine(
     )
 }
 
-// The graph call with a wide state limit and with narrow ones.
+// The graph call with a wide state limit and with narrow ones; and with a wide and a narrow one by a random pairing.
 pub(crate) fn examine_limits(
     cache: Cache,
     tracked: &[u32],
@@ -468,5 +469,7 @@ pub(crate) fn examine_limits(
     let one = examine(cache, 1, tracked, runs, accesses, edges, wide);
     let two = examine(cache, 2, tracked, runs, accesses, edges, one);
     let three = examine(cache, 3, tracked, runs, accesses, edges, two);
-    examine(cache, 5, tracked, runs, accesses, edges, three)
+    let five = examine(cache, 5, tracked, runs, accesses, edges, three);
+    let joined = examine_joined(cache, 64, tracked, runs, accesses, edges, five);
+    examine_joined(cache, 3, tracked, runs, accesses, edges, joined)
 }

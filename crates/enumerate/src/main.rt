@@ -11,7 +11,8 @@
 //   cycle budget, asked with the accesses of the graph's longest path;
 // - the longest path has as many accesses as the longest of all paths;
 // - from an empty cache of the first revision, where every access is tracked, for every path and number: the units of the best case's table with more misses than the
-//   number are at most the share of the sequences with more, and the same of hits; it totals 2^48 too, and is refused where it has to be.
+//   number are at most the share of the sequences with more, and the same of hits; it totals 2^48 too, and is refused where it has to be;
+// - all but the last again for tables of which the first join is by a random pairing that is accepted.
 //
 // From a used cache only the share of the sequences with more misses, or cycles, is held to the units: that is all that is promised then.
 //
@@ -26,7 +27,9 @@ mod cores;
 mod cycles;
 mod examine;
 mod graphs;
+mod joined;
 mod numbers;
+mod pairs;
 mod paths;
 mod promises;
 mod report;

@@ -13,6 +13,8 @@ pub mod Partnering
 pub mod Folding
 -- Joining two tables
 pub mod Pairing
+-- Joining by what is handed in
+pub mod HandedIn
 -- Nodes and their tables
 pub mod Nodes
 -- Tables in their places

@@ -19,10 +19,8 @@ use Rattle.rules.specs.Table.{rising, total, unitsOf, Work}
 use Rattle.rules.specs.Shape.{Every, Aimed, Shaped, Table}
 use Rattle.rules.specs.Step.{access, accessAside}
 use Rattle.rules.specs.Fold.{folded}
-use Rattle.rules.specs.Join.{join}
 use Rattle.rules.specs.Run.{advance, run}
 use Rattle.rules.proofs.Table.{rising-is}
-use Rattle.rules.proofs.Join.{rising-join, length-join}
 use Rattle.rules.proofs.Run.{rising-access, access-length, table-advance, table-wider, advance-aside}
 use Rattle.rules.proofs.Refusals.{counts-some, counts-few}
 use Rattle.rules.proofs.Sets.{aimed, room-risk}
@@ -82,10 +80,6 @@ gathered-fits c ts K M x T r T₀ T₁ ranges aim t g = (
   omega (arith, g .count, access-length (c .ways) (c .sets) ts K M x T (ranges .few-ways) aim t, ranges .few-states),
   rw (g .table) (rising-is (access (c .ways) x T) (rising-access (c .ways) (c .sets) ts K (ranges .some-ways) (ranges .few-ways) (ranges .some-states) x T)),
 )
-
-pub joined-fits : (S T : List State) (r : ℕ) (T₀ T₁ : List State) → length S ≤ 64 → length T ≤ 64
-    → InScratch (join S T) r T₀ T₁ → (r ≤ 1088) × (rising (take r (drop 4096 T₁)) ≡ true)
-joined-fits S T r T₀ T₁ l m g = (omega (arith, g .count, length-join S T), rw (g .table) (rising-is (join S T) (rising-join S T)))
 
 pub advanced : (N K : ℕ) (x y : Target) (w : Work) (at r a m b : ℕ) (T T₁ T₂ : List State) → x ≡ y → at ≤ 4096 → InScratch (access N x (w .table)) r T T₁
     → a ≡ more (w .aside) (accessAside N x (w .table))

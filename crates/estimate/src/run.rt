@@ -2,21 +2,25 @@
 use crate::access::gather;
 use crate::contents::aim;
 use crate::fold::fold_down;
-use crate::join::pair_up;
+use crate::handed::pair_entry;
 use crate::memory::copy;
+use crate::states::Joined;
 use crate::states::Tally;
+use crate::states::both;
 use rules::Cache;
 use rules::Last;
 use rules::Units;
 ghost use mathlib.Core.Path.{_≡_};
-ghost use mathlib.Core.Bool.{true};
+ghost use mathlib.Core.Bool.{true, _&&_};
 ghost use Prim.Native.Nat.{_+_, _*_, _-_, _≤_};
 ghost use lib.ListN.{length, take, drop};
 ghost use Rattle.rules.specs.Contents.{targetOf};
-ghost use Rattle.rules.specs.Fold.{folded};
-ghost use Rattle.rules.specs.Join.{join};
+ghost use Rattle.rules.specs.AnyTable.{entryFits, joinOne};
+ghost use Rattle.rules.specs.Fold.{states, folded};
+ghost use Rattle.rules.specs.Entries.{entryOf};
+ghost use Rattle.rules.proofs.Entries.{Formed};
 ghost use Rattle.rules.specs.Run.{advance as advanceOf, run as runOver};
-ghost use Rattle.rules.specs.Table.{rising};
+ghost use Rattle.rules.specs.Table.{listing, rising};
 ghost use Rattle.words.specs.Tables.{tableOf};
 ghost use Rattle.estimate.specs.Rooms.{InPlace};
 ghost use Rattle.estimate.specs.Working.{workAt, Ready};
@@ -84,18 +88,28 @@ pub(crate) fn run(
     so_far
 }
 
-// The table of `m` states at place `other` joined to that at place `at`.
+// The table of `m` states at place `other` joined to that at place `at`, by the entry with this number.
 pub(crate) fn join_to(
     work: &mut [u64],
     at: usize,
-    tally: Tally,
+    begun: Joined,
     other: usize,
     m: usize,
     limit: usize,
-) -> Tally
-    requires { ⌜ (25920 ≤ length (now work)) × (at + 64 ≤ 4096) × (tally .states ≤ 64) × (other + 64 ≤ 4096) × (m ≤ 64) × (1 ≤ limit) × (limit ≤ 64) ⌝ }
-    ensures { λ r. ⌜ InPlace (folded limit (record { table = join (take (tally .states) (drop at (tableOf (now (work .entry))))) (take m (drop other (tableOf (now (work .entry))))); aside = tally .aside .0 })) at (r .states) (r .aside .0) (tableOf (now (work .entry))) (tableOf (now (work .exit))) ⌝ }
+    counts: &[u64],
+    rows: &[u64],
+    number: usize,
+) -> Joined
+    requires { ⌜ (25920 ≤ length (now work)) × (at + 64 ≤ 4096) × (begun .states ≤ 64) × (other + 64 ≤ 4096) × (m ≤ 64) × (1 ≤ limit) × (limit ≤ 64) × Formed (length (now counts)) (now counts) (now rows) ⌝ }
+    ensures { λ r. ⌜ InPlace (joinOne states (entryOf (now (counts .entry)) (now (rows .entry)) number) limit (workAt at (begun .states) (begun .aside .0) (now (work .entry))) (take m (drop other (tableOf (now (work .entry)))))) at (r .states) (r .aside .0) (tableOf (now (work .entry))) (tableOf (now (work .exit))) × (r .fits ≡ (begun .fits && entryFits listing (entryOf (now (counts .entry)) (now (rows .entry)) number) (workAt at (begun .states) (begun .aside .0) (now (work .entry)) .table) (take m (drop other (tableOf (now (work .entry))))))) ⌝ }
 {
-    let n = pair_up(work, at, tally.states, other, m);
-    settle(work, at, n, tally.aside, limit)
+    let paired = pair_entry(work, at, begun.states, other, m, counts, rows, number);
+    let before = begun.aside;
+    let done = settle(work, at, paired.states, before, limit);
+    let aside = done.aside;
+    Joined {
+        states: done.states,
+        aside,
+        fits: both(begun.fits, paired.fits),
+    }
 }

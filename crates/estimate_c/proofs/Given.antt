@@ -16,14 +16,15 @@ use Rattle.nightly.specs.declared.Report.{Report}
 use Rattle.nightly.specs.Call.{BuildLeft}
 use Rattle.writing.specs.declared.Written.{Written}
 use Rattle.text.specs.Rooms.{Rooms, NumbersWritten, TextWritten}
-use Rattle.estimate_c.specs.Given.{ValueGiven, outcomeGiven, graphGiven, expansionGiven, listingGiven, builtGiven, nightlyGiven, countGiven, spreadGiven, readingGiven, readGiven, countedGiven, bytesOf, numbersGiven, textGiven}
+use Rattle.estimate_c.specs.Given.{OutcomeGiven, ValueGiven, outcomeGiven, graphGiven, expansionGiven, listingGiven, builtGiven, nightlyGiven, countGiven, spreadGiven, readingGiven, readGiven, countedGiven, bytesOf, numbersGiven, textGiven}
 
-pub graph-given : {o p : Outcome} {result work : List ℕ} (a : After) (states aside : ℕ)
-    → o ≡ p
+-- of a graph call: `g` is what its answer `o` gives
+pub graph-given : {g : OutcomeGiven} {o : Outcome} {result work : List ℕ} {a : After} (states aside : ℕ)
+    → g ≡ outcomeGiven o states aside
     → record { answer = o; result = result; work = work } ≡ a
-    → outcomeGiven p states aside result work ≡ graphGiven a states aside
-graph-given {result = result} {work = work} a states aside told leaves =
-    ap (λ q. outcomeGiven q states aside result work) (sym told) ∙ ap (λ b. graphGiven b states aside) leaves
+    → record { answer = g; result = result; work = work } ≡ graphGiven a states aside
+graph-given {result = result} {work = work} states aside said leaves =
+    ap (λ h. record { answer = h; result = result; work = work }) said ∙ ap (λ b. graphGiven b states aside) leaves
 
 pub listing-given : {o p : Expansion} {runs accesses edges : List ℕ} (a : ExpandingLeft) (nodes many links : ℕ)
     → o ≡ p

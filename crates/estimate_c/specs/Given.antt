@@ -49,23 +49,26 @@ cacheGiven Z N v warm = cache Z N v (startGiven warm)
 
 -- ---- the graph call: 0, or the refusal's number; how many states and how many units set aside; the two rooms
 
--- what is given of a graph call: the number, what stands behind both pointers, and both rooms
-pub record GraphGiven : Type 0 where
+-- what is given of its answer: the number, and what stands behind both pointers
+pub record OutcomeGiven : Type 0 where
   pub number : ℕ
   pub states : ℕ
   pub aside : ℕ
+
+-- where `states` and `aside` stood behind them
+abbrev pub outcomeGiven : Outcome → ℕ → ℕ → OutcomeGiven
+outcomeGiven (Finished n a) states aside = record { number = 0; states = n; aside = a .0 }
+outcomeGiven (RefusedOutcome r) states aside = record { number = numberOf r; states = states; aside = aside }
+
+-- what is given of a graph call: that, and both rooms
+pub record GraphGiven : Type 0 where
+  pub answer : OutcomeGiven
   pub result : List ℕ
   pub work : List ℕ
 
--- of its answer, with what stood behind the two pointers, and the rooms as they are now
-abbrev pub outcomeGiven : Outcome → ℕ → ℕ → List ℕ → List ℕ → GraphGiven
-outcomeGiven (Finished n a) states aside result work = record { number = 0; states = n; aside = a .0; result = result; work = work }
-outcomeGiven (RefusedOutcome r) states aside result work =
-    record { number = numberOf r; states = states; aside = aside; result = result; work = work }
-
 -- of what the call leaves
 abbrev pub graphGiven : After → ℕ → ℕ → GraphGiven
-graphGiven a states aside = outcomeGiven (a .answer) states aside (a .result) (a .work)
+graphGiven a states aside = record { answer = outcomeGiven (a .answer) states aside; result = a .result; work = a .work }
 
 -- ---- a question: 0, or the refusal's number; and its value
 

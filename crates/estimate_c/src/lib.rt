@@ -1,6 +1,7 @@
 // The estimate for C: what include/estimate.h declares. Each function calls the one in Rattle that answers (`estimate_graph` calls `analyse`, the questions call
 // those of a table in words or of a lent row), and gives the answer as numbers.
 use estimate::analyse;
+use estimate::analyse_paired;
 use listing::Expansion;
 use listing::expand;
 use longest::longest_path;
@@ -44,11 +45,11 @@ ghost use Rattle.rules.specs.Questions.{aboveAnswer, budgetAnswer, spreadAnswer
 ghost use Rattle.rules.specs.Within.{isWithin};
 ghost use Rattle.words.specs.Tables.{tableOf};
 ghost use Rattle.listing.specs.Call.{afterExpanding};
-ghost use Rattle.estimate.specs.Call.{analysed};
+ghost use Rattle.estimate.specs.Call.{analysed, analysedPaired};
 ghost use Rattle.recorder.specs.Calls.{traceRead, traceListed, traceWritten};
 ghost use Rattle.nightly.specs.Call.{afterBuild};
 ghost use Rattle.text.specs.Rooms.{afterNumbers, afterText, afterCyclesOfNumbers, afterCyclesOfText};
-ghost use Rattle.estimate_c.specs.Given.{startGiven, cacheGiven, graphGiven, listingGiven, amountGiven, countGiven, timeGiven, lengthGiven, spreadGiven, readGiven, countedGiven, bytesOf, numbersGiven, textGiven, yesGiven, nightlyGiven};
+ghost use Rattle.estimate_c.specs.Given.{startGiven, cacheGiven, outcomeGiven, graphGiven, listingGiven, amountGiven, countGiven, timeGiven, lengthGiven, spreadGiven, readGiven, countedGiven, bytesOf, numbersGiven, textGiven, yesGiven, nightlyGiven};
 
 mod best_case;
 
@@ -75,6 +76,20 @@ fn cache_named(sets: u32, ways: u32, revision: u32, warm: bool) -> Cache
     }
 }
 
+// The answer of a graph call as a number, 0 or the refusal's; how many states there are, and what is set aside.
+fn give_outcome(answer: Outcome, states: &mut usize, aside: &mut u64) -> u64
+    ensures { λ r. ⌜ record { number = r; states = now (states .exit); aside = now (aside .exit) } ≡ outcomeGiven answer (now (states .entry)) (now (aside .entry)) ⌝ }
+{
+    match answer {
+        Outcome::Finished(count, units) => {
+            *states = count;
+            *aside = units.0;
+            0
+        }
+        Outcome::Refused(reason) => reason.number(),
+    }
+}
+
 // The graph call.
 #[no_mangle]
 pub extern "C" fn estimate_graph(
@@ -92,25 +107,61 @@ pub extern "C" fn estimate_graph(
     states: &mut usize,
     aside: &mut u64,
 ) -> u64
-    ensures { λ r. ⌜ record { number = r; states = now (states .exit); aside = now (aside .exit); result = now (result .exit); work = now (work .exit) } ≡ graphGiven (analysed (cacheGiven sets ways revision warm) limit (now (tracked .entry)) (now (runs .entry)) (now (accesses .entry)) (now (edges .entry)) (now (result .entry)) (now (work .entry))) (now (states .entry)) (now (aside .entry)) ⌝ }
+    ensures { λ r. ⌜ record { answer = record { number = r; states = now (states .exit); aside = now (aside .exit) }; result = now (result .exit); work = now (work .exit) } ≡ graphGiven (analysed (cacheGiven sets ways revision warm) limit (now (tracked .entry)) (now (runs .entry)) (now (accesses .entry)) (now (edges .entry)) (now (result .entry)) (now (work .entry))) (now (states .entry)) (now (aside .entry)) ⌝ }
 {
-    match analyse(
-        cache_named(sets, ways, revision, warm),
-        limit,
-        tracked,
-        runs,
-        accesses,
-        edges,
-        result,
-        work,
-    ) {
-        Outcome::Finished(count, units) => {
-            *states = count;
-            *aside = units.0;
-            0
-        }
-        Outcome::Refused(reason) => reason.number(),
-    }
+    give_outcome(
+        analyse(
+            cache_named(sets, ways, revision, warm),
+            limit,
+            tracked,
+            runs,
+            accesses,
+            edges,
+            result,
+            work,
+        ),
+        states,
+        aside,
+    )
+}
+
+// The graph call with a pairing or none for each join.
+#[no_mangle]
+pub extern "C" fn estimate_graph_paired(
+    sets: u32,
+    ways: u32,
+    revision: u32,
+    warm: bool,
+    limit: u32,
+    tracked: &[u32],
+    runs: &[u32],
+    accesses: &[u32],
+    edges: &[u32],
+    counts: &[u64],
+    rows: &[u64],
+    result: &mut [u64],
+    work: &mut [u64],
+    states: &mut usize,
+    aside: &mut u64,
+) -> u64
+    ensures { λ r. ⌜ record { answer = record { number = r; states = now (states .exit); aside = now (aside .exit) }; result = now (result .exit); work = now (work .exit) } ≡ graphGiven (analysedPaired (cacheGiven sets ways revision warm) limit (now (tracked .entry)) (now (runs .entry)) (now (accesses .entry)) (now (edges .entry)) (now (counts .entry)) (now (rows .entry)) (now (result .entry)) (now (work .entry))) (now (states .entry)) (now (aside .entry)) ⌝ }
+{
+    give_outcome(
+        analyse_paired(
+            cache_named(sets, ways, revision, warm),
+            limit,
+            tracked,
+            runs,
+            accesses,
+            edges,
+            counts,
+            rows,
+            result,
+            work,
+        ),
+        states,
+        aside,
+    )
 }
 
 // The answer of a question as a number, 0 or the refusal's, and its value: units,

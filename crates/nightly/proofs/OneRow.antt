@@ -20,7 +20,7 @@ use Rattle.rules.specs.declared.Verdict.the-variants.{Accepted, Refused}
 use Rattle.rules.specs.Units.{whole}
 use Rattle.rules.specs.Answers.{numberOf, countSays}
 use Rattle.rules.specs.Input.{Input, nodes}
-use Rattle.rules.specs.AnyTable.{finished as finishedOf}
+use Rattle.rules.specs.AnyTable.{noPairings, finishedBy as finishedOf}
 use Rattle.rules.specs.Graph.{finished}
 use Rattle.rules.specs.Longest.{longest}
 use Rattle.rules.specs.Questions.{isTable, smallestBudget, budgetAnswer}
@@ -75,7 +75,7 @@ module _ (u : ℕ) (ns : List ℕ) where
 
 most-answered : (u : ℕ) (i : Input) (v : Verdict) → rowFor u i (answered v i) .aside ≤ whole
 unfolding finishedOf
-most-answered u i Accepted = aside-worked i (nodes i)
+most-answered u i Accepted = aside-worked noPairings i (nodes i)
 most-answered u i (Refused r) = omega arith
 
 pub aside-most : (u : ℕ) (ns : List ℕ) → rowOf u ns .aside ≤ whole

@@ -1,4 +1,5 @@
--- Along a path, for any kind of table: what holds of an access, a fold of any two places and a join of two tables holds from the first access of a run to its
+-- Along a path, for any kind of table and any pairings that are handed in: what holds of an access, a fold of any two places and a join of two tables
+-- by any pairing that uses their units exactly holds from the first access of a run to its
 -- last, at the joins of a node and from node to node, whichever edges the path takes. R is ≤ for a bound from above, and ≥ for one from below.
 use mathlib.Core.Path.{_≡_, refl, sym, ap, _∙_, subst}
 use mathlib.Core.Bool.{true, true≢false}
@@ -18,12 +19,13 @@ use Rattle.rules.specs.Units.{whole}
 use Rattle.rules.specs.declared.Last.{Last}
 use Rattle.rules.specs.declared.Last.the-variants.{Block as block, Unknown as unknown}
 use Rattle.rules.specs.Contents.{among, lastAfter, targetOf}
-use Rattle.rules.specs.Input.{Input, nodes, runOf, edgesOf, predecessors}
+use Rattle.rules.specs.Input.{Input, nodes, runOf, edgesOf, predecessors, joinsTo}
 use Rattle.rules.specs.Lasts.{lastBefore, nodeLast, lastsTo}
 use Rattle.rules.specs.Shape.{Every, Present, Sound}
-use Rattle.rules.specs.AnyTable.{total, access, Work, Kind, foldAt, folded, advance, run, join, Worked, tableAt, joinAll, enter, node, worked, finished}
+use Rattle.rules.specs.AnyTable.{Match, Entry, Entries, later, behind, total, access, Work, Kind, foldAt, folded, advance, run, paired, Worked, tableAt, joinOne, joinAllBy, enterBy, nodeBy, workedBy, finishedBy}
 use Rattle.rules.proofs.Listings.{worth}
-use Rattle.rules.proofs.AnyTable.{Starts, Follows, folded-keeps, fold-total, shaped-fold, join-total, shaped-join, shaped-access, access-total, sound-advance, sound-join, sound-enter, nodeTable, table-stays, finished-table, node-sound}
+use Rattle.rules.proofs.Pairings.{Uses}
+use Rattle.rules.proofs.AnyTable.{Starts, Follows, folded-keeps, fold-total, shaped-fold, by-entry, paired-total, shaped-paired, shaped-access, access-total, sound-advance, sound-join, sound-enter, nodeTable, table-stays, finished-table, node-sound}
 use Rattle.rules.proofs.Refusals.{Checked, predecessor-lower}
 use Rattle.rules.proofs.Nodes.{first-and-others, first-or-other}
 use Rattle.rules.proofs.Graph.{lastOf, last-stays, Vaguer, vaguer-trans, last-before}
@@ -40,8 +42,8 @@ pub along-append : {W : Type 0} (ahead : Target → W → W) (p q : List Target)
 along-append ahead [] q f = refl
 along-append ahead (x ∷ p) q f = ap (ahead x) (along-append ahead p q f)
 
--- weights W of states, which of them are good, and what they are before an access; an access, a fold and a join keep R between what a table is worth before
--- and after, to every good weight
+-- weights W of states, which of them are good, and what they are before an access; an access, a fold and a join by any pairing that uses the units of both
+-- tables exactly keep R between what a table is worth before and after, to every good weight
 pub record Carries {A W : Type 0} (k : Kind A) (N : ℕ) (X : Target → Type 0) (P : ℕ → A → Type 0) (weigh : W → A → ℕ) (Good : W → Type 0) (ahead : Target → W → W)
     (R : ℕ → ℕ → Type 0) : Type 0 where
   pub follows : Follows k N X P
@@ -53,9 +55,9 @@ pub record Carries {A W : Type 0} (k : Kind A) (N : ℕ) (X : Target → Type 0)
       → R (worth (k .listing) (weigh (ahead x f)) T) (N * worth (k .listing) (weigh f) (access (k .listing) (k .successors N x) T))
   pub by-fold : (M : ℕ) (f : W) (p : Pair) (w : Work A) → Good f → Every (Present (k .listing) (P M)) (w .table) → total (k .listing) (w .table) ≤ whole
       → R (worth (k .listing) (weigh f) (w .table)) (worth (k .listing) (weigh f) (foldAt k p w .table))
-  pub by-join : (M : ℕ) (f : W) (S T : List A) → Good f → Every (Present (k .listing) (P M)) S → Every (Present (k .listing) (P M)) T
-      → total (k .listing) S ≤ whole → total (k .listing) S ≡ total (k .listing) T
-      → R (worth (k .listing) (weigh f) S) (worth (k .listing) (weigh f) (join k S T)) × R (worth (k .listing) (weigh f) T) (worth (k .listing) (weigh f) (join k S T))
+  pub by-pairing : (M : ℕ) (f : W) (S T : List A) → Good f → Every (Present (k .listing) (P M)) S → Every (Present (k .listing) (P M)) T
+      → total (k .listing) S ≤ whole → (Q : List Match) → Uses (k .listing) (λ m. m .left) Q S → Uses (k .listing) (λ m. m .right) Q T
+      → R (worth (k .listing) (weigh f) S) (worth (k .listing) (weigh f) (paired k Q S T)) × R (worth (k .listing) (weigh f) T) (worth (k .listing) (weigh f) (paired k Q S T))
 
 module _ {A W : Type 0} {k : Kind A} {N : ℕ} {X : Target → Type 0} {P : ℕ → A → Type 0} {weigh : W → A → ℕ} {Good : W → Type 0} {ahead : Target → W → W}
     {R : ℕ → ℕ → Type 0} (c : Carries k N X P weigh Good ahead R) where
@@ -135,46 +137,55 @@ module _ {A W : Type 0} {k : Kind A} {N : ℕ} {X : Target → Type 0} {P : ℕ 
       abbrev Tab : List A → Type 0
       Tab T = Sound l (P M) K T
 
-      joined-stands : (S T : List A) (a : ℕ) → Tab S → Tab T
-          → Stands S (folded k K (record { table = join k S T; aside = a }) .table) × Stands T (folded k K (record { table = join k S T; aside = a }) .table)
-      joined-stands S T a s t = (λ f g. c .onward _ _ _ (joined f g .0) (folds f g), λ f g. c .onward _ _ _ (joined f g .1) (folds f g))
-        where
-          full : total l S ≤ whole
-          full = omega (arith, s .full)
+      module _ (S T : List A) (a : ℕ) (s : Tab S) (t : Tab T) where
+        abbrev foldedTo : List A → List A
+        foldedTo U = folded k K (record { table = U; aside = a }) .table
 
-          joined : (f : W) → Good f → R (worthTo f S) (worthTo f (join k S T)) × R (worthTo f T) (worthTo f (join k S T))
-          joined f g = c .by-join M f S T g (s .shaped) (t .shaped) full (s .full ∙ sym (t .full))
+        full : total l S ≤ whole
+        full = omega (arith, s .full)
 
-          folds : (f : W) → Good f → R (worthTo f (join k S T)) (worthTo f (folded k K (record { table = join k S T; aside = a }) .table))
-          folds f g =
-              folded-carries M f K (record { table = join k S T; aside = a }) g (shaped-join (c .follows .keeps) M S T (s .shaped) (t .shaped))
-              (le-trans (le-of-eq (join-total k (c .follows .keeps .laws) S T (s .full ∙ sym (t .full)) full)) full)
+        pairing-stands : (Q : List Match) → Uses l (λ m. m .left) Q S → Uses l (λ m. m .right) Q T
+            → Stands S (foldedTo (paired k Q S T)) × Stands T (foldedTo (paired k Q S T))
+        pairing-stands Q left right = (λ f g. c .onward _ _ _ (met f g .0) (folds f g), λ f g. c .onward _ _ _ (met f g .1) (folds f g))
+          where
+            met : (f : W) → Good f → R (worthTo f S) (worthTo f (paired k Q S T)) × R (worthTo f T) (worthTo f (paired k Q S T))
+            met f g = c .by-pairing M f S T g (s .shaped) (t .shaped) full Q left right
+
+            folds : (f : W) → Good f → R (worthTo f (paired k Q S T)) (worthTo f (foldedTo (paired k Q S T)))
+            folds f g =
+                folded-carries M f K (record { table = paired k Q S T; aside = a }) g (shaped-paired (c .follows .keeps) M Q S T (s .shaped) (t .shaped))
+                (le-trans (le-of-eq (paired-total k (c .follows .keeps .laws) Q S T left full)) full)
+
+      joined-stands : (e : Entry) (w : Work A) (T : List A) → Tab (w .table) → Tab T → Stands (w .table) (joinOne k e K w T .table) × Stands T (joinOne k e K w T .table)
+      joined-stands e w T s t =
+          by-entry k (c .follows .keeps .laws) (λ U. Stands (w .table) (foldedTo (w .table) T (w .aside) s t U) × Stands T (foldedTo (w .table) T (w .aside) s t U)) e (w .table) T
+          (s .full ∙ sym (t .full)) (pairing-stands (w .table) T (w .aside) s t)
 
       module _ (d : Worked A) where
         abbrev Tables : List ℕ → Type 0
         Tables is = (j : ℕ) → among is j ≡ true → Tab (tableAt d j)
 
-        joinAll-stands : (is : List ℕ) (w : Work A) → Tables is → Tab (w .table)
-            → Stands (w .table) (joinAll k K d is w .table) × ((j : ℕ) → among is j ≡ true → Stands (tableAt d j) (joinAll k K d is w .table))
-        unfolding joinAll
-        joinAll-stands [] w h t = (λ f g. c .same _, λ j e. absurd (true≢false (sym e)))
-        joinAll-stands (i ∷ is) w h t =
-            let (p, q) = first-and-others (λ j. Tab (tableAt d j)) i is h in
-            let v = folded k K (record { table = join k (w .table) (tableAt d i); aside = w .aside }) in
-            let (x, y) = joined-stands (w .table) (tableAt d i) (w .aside) t p in
-            let (z, rest) = joinAll-stands is v q (sound-join (c .follows .keeps) K room M (w .table) (tableAt d i) (w .aside) t p) in (
+        joinAll-stands : (q : Entries) (is : List ℕ) (w : Work A) → Tables is → Tab (w .table)
+            → Stands (w .table) (joinAllBy k q K d is w .table) × ((j : ℕ) → among is j ≡ true → Stands (tableAt d j) (joinAllBy k q K d is w .table))
+        unfolding joinAllBy
+        joinAll-stands q [] w h t = (λ f g. c .same _, λ j e. absurd (true≢false (sym e)))
+        joinAll-stands q (i ∷ is) w h t =
+            let (p, others) = first-and-others (λ j. Tab (tableAt d j)) i is h in
+            let v = joinOne k (q 0) K w (tableAt d i) in
+            let (x, y) = joined-stands (q 0) w (tableAt d i) t p in
+            let (z, rest) = joinAll-stands (later q) is v others (sound-join (c .follows .keeps) K room M (q 0) w (tableAt d i) t p) in (
               λ f g. c .onward _ _ _ (x f g) (z f g),
-              first-or-other (λ j. Stands (tableAt d j) (joinAll k K d is v .table)) i is (λ f g. c .onward _ _ _ (y f g) (z f g)) rest,
+              first-or-other (λ j. Stands (tableAt d j) (joinAllBy k (later q) K d is v .table)) i is (λ f g. c .onward _ _ _ (y f g) (z f g)) rest,
             )
 
-        pub enter-stands : (s : A) (is : List ℕ) → Tables is → (j : ℕ) → among is j ≡ true → Stands (tableAt d j) (enter k K s d is .table)
-        unfolding enter
-        enter-stands s [] h j e = absurd (true≢false (sym e))
-        enter-stands s (i ∷ is) h j e =
-            let (p, q) = first-and-others (λ j. Tab (tableAt d j)) i is h in
+        pub enter-stands : (q : Entries) (s : A) (is : List ℕ) → Tables is → (j : ℕ) → among is j ≡ true → Stands (tableAt d j) (enterBy k q K s d is .table)
+        unfolding enterBy
+        enter-stands q s [] h j e = absurd (true≢false (sym e))
+        enter-stands q s (i ∷ is) h j e =
+            let (p, others) = first-and-others (λ j. Tab (tableAt d j)) i is h in
             let w : Work A = record { table = tableAt d i; aside = d .aside } in
-            let (z, rest) = joinAll-stands is w q p in
-            first-or-other (λ j. Stands (tableAt d j) (joinAll k K d is w .table)) i is z rest j e
+            let (z, rest) = joinAll-stands q is w others p in
+            first-or-other (λ j. Stands (tableAt d j) (joinAllBy k q K d is w .table)) i is z rest j e
 
 -- ---- the start
 
@@ -186,10 +197,10 @@ no-predecessors i ok = none (predecessors (edgesOf (i .edges)) 0) (λ a e. prede
     none [] h = refl
     none (a ∷ is) h = let z : a < 0 = h a (or-left (eqb a a) _ (eq-eqb a a refl)) in absurd (omega arith)
 
-pub first-start : {A : Type 0} (k : Kind A) (i : Input) → Checked i
-    → enter k (i .limit) (k .start i) (worked k i 0) (predecessors (edgesOf (i .edges)) 0) ≡ record { table = k .start i ∷ []; aside = 0 }
-unfolding worked enter
-first-start k i ok = ap (enter k (i .limit) (k .start i) (worked k i 0)) (no-predecessors i ok)
+pub first-start : {A : Type 0} (k : Kind A) (q p : Entries) (i : Input) → Checked i
+    → enterBy k p (i .limit) (k .start i) (workedBy k q i 0) (predecessors (edgesOf (i .edges)) 0) ≡ record { table = k .start i ∷ []; aside = 0 }
+unfolding workedBy enterBy
+first-start k q p i ok = ap (enterBy k p (i .limit) (k .start i) (workedBy k q i 0)) (no-predecessors i ok)
 
 -- the block accessed directly before node j
 abbrev pub known : Input → ℕ → Last
@@ -212,7 +223,7 @@ last-append o (b ∷ p) q = last-append (block b) p q
 -- ---- from node to node
 
 module _ {A W : Type 0} {k : Kind A} {X : Target → Type 0} {P : ℕ → A → Type 0} {weigh : W → A → ℕ} {Good : W → Type 0} {ahead : Target → W → W}
-    {R : ℕ → ℕ → Type 0} (i : Input) (ok : Checked i) (c : Carries k (i .ways) X P weigh Good ahead R) (starts : Starts (k .listing) P (k .start i))
+    {R : ℕ → ℕ → Type 0} (q : Entries) (i : Input) (ok : Checked i) (c : Carries k (i .ways) X P weigh Good ahead R) (starts : Starts (k .listing) P (k .start i))
     (aims : (o : Last) (b : ℕ) → X (targetOf (i .sets) (i .tracked) o b)) where
   abbrev N : ℕ
   N = i .ways
@@ -237,36 +248,39 @@ module _ {A W : Type 0} {k : Kind A} {X : Target → Type 0} {P : ℕ → A → 
   abbrev NodeIs : List A → Type 0
   NodeIs T = Sound (k .listing) (P (length (i .accesses))) (i .limit) T
 
-  node-is : (j : ℕ) → j < nodes i → NodeIs (nodeTable k i j)
-  node-is = node-sound i ok (c .follows) starts aims
+  node-is : (j : ℕ) → j < nodes i → NodeIs (nodeTable k q i j)
+  node-is = node-sound q i ok (c .follows) starts aims
 
   -- after o the accesses bs lead from T to U
   abbrev Leads : Last → List A → List ℕ → List A → Type 0
   Leads o T bs U = (f : W) → Good f → R (worthAt (before o bs f) T) (N ^ length bs * worthAt f U)
 
-  -- what node j starts from
+  -- the entries for the joins at node j, and what it starts from
+  abbrev entries : ℕ → Entries
+  entries j = behind (joinsTo (edgesOf (i .edges)) j) q
+
   abbrev entered : ℕ → Work A
-  entered j = enter k (i .limit) (k .start i) (worked k i j) (predecessors (edgesOf (i .edges)) j)
+  entered j = enterBy k (entries j) (i .limit) (k .start i) (workedBy k q i j) (predecessors (edgesOf (i .edges)) j)
 
   module _ (j : ℕ) (here : j < nodes i) where
-    tables-before : (a : ℕ) → among (predecessors (edgesOf (i .edges)) j) a ≡ true → NodeIs (tableAt (worked k i j) a)
+    tables-before : (a : ℕ) → among (predecessors (edgesOf (i .edges)) j) a ≡ true → NodeIs (tableAt (workedBy k q i j) a)
     tables-before a e =
         let a<j = predecessor-lower i ok a j e .0 in
-        rw (table-stays k i j a a<j) (node-is a (omega (arith, a<j)))
+        rw (table-stays k q i j a a<j) (node-is a (omega (arith, a<j)))
 
-    node-run : Leads (known i j) (entered j .table) (runOf i j) (nodeTable k i j)
-    unfolding node
+    node-run : Leads (known i j) (entered j .table) (runOf i j) (nodeTable k q i j)
+    unfolding nodeBy
     node-run f g =
         run-carries c (i .limit) (ok .some-states) (i .sets) (i .tracked) aims f g (length (i .accesses)) (known i j) (runOf i j) (entered j)
-        (sound-enter (c .follows .keeps) (i .limit) (ok .some-states) (length (i .accesses)) (worked k i j) (k .start i) starts _ tables-before)
+        (sound-enter (c .follows .keeps) (i .limit) (ok .some-states) (length (i .accesses)) (workedBy k q i j) (entries j) (k .start i) starts _ tables-before)
 
     module _ (a : ℕ) (e : among (predecessors (edgesOf (i .edges)) j) a ≡ true) where
       -- from each predecessor
-      node-leads : Leads (known i j) (nodeTable k i a) (runOf i j) (nodeTable k i j)
+      node-leads : Leads (known i j) (nodeTable k q i a) (runOf i j) (nodeTable k q i j)
       node-leads f g =
           c .onward _ _ _
-          (rw (table-stays k i j a (predecessor-lower i ok a j e .0)) at
-          (enter-stands c (i .limit) (ok .some-states) (length (i .accesses)) (worked k i j) (k .start i) (predecessors (edgesOf (i .edges)) j) tables-before a e
+          (rw (table-stays k q i j a (predecessor-lower i ok a j e .0)) at
+          (enter-stands c (i .limit) (ok .some-states) (length (i .accesses)) (workedBy k q i j) (entries j) (k .start i) (predecessors (edgesOf (i .edges)) j) tables-before a e
           (before (known i j) (runOf i j) f) (good-before (known i j) (runOf i j) f g)))
           (node-run f g)
 
@@ -288,10 +302,10 @@ module _ {A W : Type 0} {k : Kind A} {X : Target → Type 0} {P : ℕ → A → 
       last : Vaguer o (lastAfter unknown p)
 
     -- and on to the next node
-    covers-on : (p : List ℕ) (a b : ℕ) → among (predecessors (edgesOf (i .edges)) b) a ≡ true → Covers p (nodeTable k i a) (lastOf i a)
-        → Covers (p ++ runOf i b) (nodeTable k i b) (lastOf i b)
+    covers-on : (p : List ℕ) (a b : ℕ) → among (predecessors (edgesOf (i .edges)) b) a ≡ true → Covers p (nodeTable k q i a) (lastOf i a)
+        → Covers (p ++ runOf i b) (nodeTable k q i b) (lastOf i b)
     unfolding nodeLast
-    covers-on p a b e q = record { stands = on; last = rw (last-append unknown p bs) (last-on (known i b) (lastAfter unknown p) bs less) }
+    covers-on p a b e c′ = record { stands = on; last = rw (last-append unknown p bs) (last-on (known i b) (lastAfter unknown p) bs less) }
       where
         bs : List ℕ
         bs = runOf i b
@@ -300,42 +314,42 @@ module _ {A W : Type 0} {k : Kind A} {X : Target → Type 0} {P : ℕ → A → 
         here = predecessor-lower i ok a b e .1
 
         less : Vaguer (known i b) (lastAfter unknown p)
-        less = vaguer-trans _ _ _ (node-known b here a e) (q .last)
+        less = vaguer-trans _ _ _ (node-known b here a e) (c′ .last)
 
         regroup : (n : ℕ) → N ^ length p * N ^ length bs * n ≡ N ^ length p * (N ^ length bs * n)
         regroup n = omega arith
 
-        on : (f : W) → Good f → R (whole * weigh (before unknown (p ++ bs) f) (k .start i)) (N ^ length (p ++ bs) * worthAt f (nodeTable k i b))
+        on : (f : W) → Good f → R (whole * weigh (before unknown (p ++ bs) f) (k .start i)) (N ^ length (p ++ bs) * worthAt f (nodeTable k q i b))
         on f g =
             rw (
               targets-append (i .sets) (i .tracked) unknown p bs,
               along-append ahead (targets unknown p) (targets (lastAfter unknown p) bs) f,
               length-append p bs,
               pow-add N (length p) (length bs),
-              regroup (worthAt f (nodeTable k i b)),
+              regroup (worthAt f (nodeTable k q i b)),
             )
-            (c .onward _ _ _ (q .stands (before (lastAfter unknown p) bs f) (good-before (lastAfter unknown p) bs f g))
+            (c .onward _ _ _ (c′ .stands (before (lastAfter unknown p) bs f) (good-before (lastAfter unknown p) bs f g))
             (c .times (N ^ length p) _ _
-            (c .onward _ _ _ (vague f g (length (i .accesses)) (known i b) (lastAfter unknown p) less bs (nodeTable k i a)
+            (c .onward _ _ _ (vague f g (length (i .accesses)) (known i b) (lastAfter unknown p) less bs (nodeTable k q i a)
             (node-is a (omega (arith, here, predecessor-lower i ok a b e .0)) .shaped))
             (node-leads b here a e f g))))
 
     -- every path from first node to last leads from the start to the finished table
     pub path-covers : (path : List ℕ) → isPath i path ≡ true → (f : W) → Good f
-        → R (whole * weigh (before unknown (accessesOf i path) f) (k .start i)) (N ^ length (accessesOf i path) * worthAt f (finished k i .table))
+        → R (whole * weigh (before unknown (accessesOf i path) f) (k .start i)) (N ^ length (accessesOf i path) * worthAt f (finishedBy k q i .table))
     unfolding nodeLast
     path-covers path h =
-        rw (finished-table k i (ok .some-nodes)) (along-path i (λ p a. Covers p (nodeTable k i a) (lastOf i a)) covers-on begun path h .stands)
+        rw (finished-table k q i (ok .some-nodes)) (along-path i (λ p a. Covers p (nodeTable k q i a) (lastOf i a)) covers-on begun path h .stands)
       where
-        begun : Covers (runOf i 0) (nodeTable k i 0) (lastOf i 0)
+        begun : Covers (runOf i 0) (nodeTable k q i 0) (lastOf i 0)
         begun =
             record {
               stands = λ f g.
-                  subst (λ (n : ℕ). R n (N ^ length (runOf i 0) * worthAt f (nodeTable k i 0)))
+                  subst (λ (n : ℕ). R n (N ^ length (runOf i 0) * worthAt f (nodeTable k q i 0)))
                   (ap (λ (u : ℕ). u * weigh (before unknown (runOf i 0) f) (k .start i) + 0) (starts .all) ∙ omega arith)
-                  (subst (λ (w : Work A). R (worthAt (before unknown (runOf i 0) f) (w .table)) (N ^ length (runOf i 0) * worthAt f (nodeTable k i 0)))
-                  (first-start k i ok)
-                  (subst (λ (o : Last). R (worthAt (before o (runOf i 0) f) (entered 0 .table)) (N ^ length (runOf i 0) * worthAt f (nodeTable k i 0)))
+                  (subst (λ (w : Work A). R (worthAt (before unknown (runOf i 0) f) (w .table)) (N ^ length (runOf i 0) * worthAt f (nodeTable k q i 0)))
+                  (first-start k q (entries 0) i ok)
+                  (subst (λ (o : Last). R (worthAt (before o (runOf i 0) f) (entered 0 .table)) (N ^ length (runOf i 0) * worthAt f (nodeTable k q i 0)))
                   (first-known i ok) (node-run 0 (ok .some-nodes) f g)));
               last = inr (ap (λ (o : Last). lastAfter o (runOf i 0)) (first-known i ok));
             }

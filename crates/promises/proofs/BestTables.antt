@@ -21,13 +21,13 @@ use Rattle.rules.specs.declared.Last.{Last}
 use Rattle.rules.specs.declared.Last.the-variants.{Unknown as unknown}
 use Rattle.rules.specs.Input.{Input}
 use Rattle.rules.specs.Shape.{Every, Present, Aimed, BestLoose}
-use Rattle.rules.specs.AnyTable.{Match, total, at, fromFront, Work, access, foldAt, paired, join, finished}
+use Rattle.rules.specs.AnyTable.{Match, noPairings, total, at, Work, access, foldAt, paired, finished}
 use Rattle.rules.specs.Best.{missesOf, hitsOf, unitsOf, hit, miss, successors, folds, joins, listing, kind}
 use Rattle.rules.proofs.Lists.{every-remove}
 use Rattle.rules.proofs.Sets.{aimed}
 use Rattle.rules.proofs.Step.{overWays}
 use Rattle.rules.proofs.Listings.{worthOf, worth, worth-add}
-use Rattle.rules.proofs.Pairings.{Uses, matched-worth, front-uses}
+use Rattle.rules.proofs.Pairings.{Uses, matched-worth}
 use Rattle.rules.proofs.AnyTable.{Keeps, Follows, firstOf, secondOf, fold-before, fold-after, shaped-at, paired-worth, successors-total}
 use Rattle.rules.proofs.Best.{best-lawful, folds-left, folds-right, joins-left, joins-right, weigh, weigh-weight, worth-miss, best-keep, best-start, best-follow}
 use Rattle.rules.proofs.Graph.{Vaguer}
@@ -184,11 +184,6 @@ module _ (N Z : ℕ) (ts : List ℕ) (some : 0 < N) (few : N ≤ 16) where
         paired-below P (λ p. p .right) T r l (λ p. stands-below N Z ts e o grows M _ _ (joins-right (at listing S (p .left)) (at listing T (p .right))) (shape-right (p .right))),
       )
 
-      pub join-below : total listing S ≡ total listing T
-          → (worth listing w (join kind S T) ≤ worth listing w S) × (worth listing w (join kind S T) ≤ worth listing w T)
-      unfolding join
-      join-below q = let (l, r) = front-uses listing best-lawful S T q in pairing-below (fromFront listing S T) l r
-
   -- ---- an access, a fold and a join add nothing, to weights that grow
 
   -- a weight of exact and one of open states
@@ -211,7 +206,7 @@ module _ (N Z : ℕ) (ts : List ℕ) (some : 0 < N) (few : N ≤ 16) where
         good-ahead = λ x f aim grows. ahead-grows N Z ts (f .0) (f .1) grows few x aim;
         by-access = λ M x f T aim grows shaped full. access-falls M x aim (f .0) (f .1) grows T shaped full;
         by-fold = λ M f p v grows shaped full. fold-falls M (f .0) (f .1) grows p v shaped full;
-        by-join = λ M f S T grows a b full q. join-below M (f .0) (f .1) grows S T a b full q;
+        by-pairing = λ M f S T grows a b full Q left right. pairing-below M (f .0) (f .1) grows S T a b full Q left right;
       }
 
   -- what the exact weight is before accesses is the value along them
@@ -229,7 +224,7 @@ pub path-within : (i : Input) → Checked i → (path : List ℕ) → isPath i p
 unfolding targetOf
 path-within i ok path h e o grows =
     rw (← exact-along N Z ts (ok .some-ways) (ok .few-ways) (e, o) (targetsOf Z ts unknown (accessesOf i path)))
-    (path-covers i ok (best-carry N Z ts (ok .some-ways) (ok .few-ways)) (best-start N Z ts (ok .few-ways)) (aimed Z ts (ok .some-sets) (ok .few-sets)) vague path h (e, o) grows)
+    (path-covers noPairings i ok (best-carry N Z ts (ok .some-ways) (ok .few-ways)) (best-start N Z ts (ok .few-ways)) (aimed Z ts (ok .some-sets) (ok .few-sets)) vague path h (e, o) grows)
   where
     N : ℕ
     N = i .ways

@@ -15,12 +15,12 @@ use Rattle.rules.specs.declared.Filled.{Filled}
 use Rattle.rules.specs.declared.Last.{Last}
 use Rattle.rules.specs.declared.Last.the-variants.{Unknown as unknown}
 use Rattle.rules.specs.Units.{whole}
-use Rattle.rules.specs.Input.{Input, nodes, offset, runOf, edgesOf, predecessors}
-use Rattle.rules.specs.AnyTable.{node as nodeOf, worked as workedOf, finished as finishedOf}
+use Rattle.rules.specs.Input.{Input, nodes, offset, runOf, edgesOf, predecessors, joinsTo}
+use Rattle.rules.specs.AnyTable.{Entries, behind, nodeBy as nodeOf, workedBy as workedOf, finishedBy as finishedOf}
 use Rattle.rules.specs.Table.{unitsOf, begin}
 use Rattle.rules.specs.Fold.{states}
 use Rattle.rules.specs.Run.{run}
-use Rattle.rules.specs.Graph.{tableAt, atStart, enter, worked, finished}
+use Rattle.rules.specs.Graph.{tableAt, atStart, enterBy, workedBy, finishedBy}
 use Rattle.rules.specs.Shape.{Every, Aimed, Room, Loose, Shaped}
 use Rattle.rules.proofs.Sets.{aimed}
 use Rattle.rules.proofs.Table.{Weight, weightOf, worth}
@@ -33,7 +33,7 @@ use Rattle.promises.specs.Paths.{isPath, accessesOf}
 use Rattle.promises.proofs.Value.{value, Rises, ahead-rises, value-vaguer, targetsOf}
 use Rattle.promises.proofs.Accesses.{access-low}
 use Rattle.promises.proofs.Folds.{kept-fold}
-use Rattle.promises.proofs.Joins.{join-above}
+use Rattle.promises.proofs.Joins.{pairing-above}
 use Rattle.promises.proofs.AnyPath.{along, Carries, known, first-start, first-known, path-covers as path-covers-any}
 
 -- the value along accesses is the weight before them
@@ -54,7 +54,7 @@ states-carry N Z ts some few =
       good-ahead = λ x f aim rises. ahead-rises N Z ts few x aim f rises;
       by-access = λ M x f T aim rises shaped full. access-low N Z ts M x aim some few T shaped full f rises;
       by-fold = λ M f p w rises shaped full. kept-fold N Z ts M p w .low f rises (shaped, full);
-      by-join = λ M f S T rises a b full e. join-above N Z ts M f rises S T a b full e;
+      by-pairing = λ M f S T rises a b full Q left right. pairing-above N Z ts M f rises S T a b full Q left right;
     }
 
 -- a table is worth no less to a weight that is no less
@@ -64,7 +64,7 @@ worth-more N Z ts M f g h [] s = le-refl 0
 worth-more N Z ts M f g h (t ∷ T) s =
     omega (arith, mul-le-mul-left (unitsOf t) (h (t .mask) (t .misses) (t .filled) (s .0 .0 .small)), worth-more N Z ts M f g h T (s .1))
 
-module _ (i : Input) (ok : Checked i) where
+module _ (q : Entries) (i : Input) (ok : Checked i) where
   abbrev N : ℕ
   N = i .ways
 
@@ -74,10 +74,10 @@ module _ (i : Input) (ok : Checked i) where
 
   -- every path from first node to last leads from the start to the finished table
   pub path-covers : (path : List ℕ) → isPath i path ≡ true → (f : Weight) → Rises N (i .sets) (i .tracked) f
-      → whole * value f N (targets unknown (accessesOf i path)) 0 0 (atStart i) ≤ N ^ length (accessesOf i path) * worth f (finished i .table)
+      → whole * value f N (targets unknown (accessesOf i path)) 0 0 (atStart i) ≤ N ^ length (accessesOf i path) * worth f (finishedBy q i .table)
   path-covers path h f rises =
       rw (← value-along f N (targets unknown (accessesOf i path)))
-      (path-covers-any i ok (states-carry N (i .sets) (i .tracked) (ok .some-ways) (ok .few-ways))
+      (path-covers-any q i ok (states-carry N (i .sets) (i .tracked) (ok .some-ways) (ok .few-ways))
       (states-start N (i .sets) (i .tracked) (atStart i) (start-most i ok)) (aimed (i .sets) (i .tracked) (ok .some-sets) (ok .few-sets)) vague path h f rises)
     where
       -- to the accesses ahead a table is worth no less where less is known of the last block
@@ -102,11 +102,11 @@ module _ (i : Input) (ok : Checked i) where
       go (n ∷ m ∷ ns) bs l s = absurd (omega arith)
 
   -- so the finished table is what the accesses make of the start
-  pub straight : nodes i ≡ 1 → finished i ≡ run N (i .sets) (i .limit) (i .tracked) unknown (i .accesses) (record { table = begin (atStart i); aside = 0 })
+  pub straight : nodes i ≡ 1 → finishedBy q i ≡ run N (i .sets) (i .limit) (i .tracked) unknown (i .accesses) (record { table = begin (atStart i); aside = 0 })
   unfolding finishedOf workedOf nodeOf
   straight e =
-      ap (λ (n : ℕ). let d = worked i n in record { table = tableAt d (n - 1); aside = d .aside }) e
-      ∙ ap (λ (l : Last). run N (i .sets) (i .limit) (i .tracked) l (runOf i 0) (enter (i .limit) (atStart i) (worked i 0) (predecessors (edgesOf (i .edges)) 0)))
+      ap (λ (n : ℕ). let d = workedBy q i n in record { table = tableAt d (n - 1); aside = d .aside }) e
+      ∙ ap (λ (l : Last). run N (i .sets) (i .limit) (i .tracked) l (runOf i 0) (enterBy (behind (joinsTo (edgesOf (i .edges)) 0) q) (i .limit) (atStart i) (workedBy q i 0) (predecessors (edgesOf (i .edges)) 0)))
       (first-known i ok)
-      ∙ ap (run N (i .sets) (i .limit) (i .tracked) unknown (runOf i 0)) (first-start states i ok)
+      ∙ ap (run N (i .sets) (i .limit) (i .tracked) unknown (runOf i 0)) (first-start states q (behind (joinsTo (edgesOf (i .edges)) 0) q) i ok)
       ∙ ap (λ (bs : List ℕ). run N (i .sets) (i .limit) (i .tracked) unknown bs (record { table = begin (atStart i); aside = 0 })) (whole-run e)

@@ -1,21 +1,19 @@
 -- A join by any pairing that uses each state's units exactly is worth no less than either table, to a weight that rises: each pair
--- has the shared blocks, the larger misses and the larger filled numbers. Document 01's walk from the front is such a pairing.
-use mathlib.Core.Path.{_≡_}
+-- has the shared blocks, the larger misses and the larger filled numbers.
 use mathlib.Core.List.{List, [], _∷_}
 use Prim.Native.Nat.{ℕ, _*_, _≤_}
 use native.Mathlib.Nat.{le-max-left, le-max-right, mul-le-mul-left, add-le-add, le-refl}
 use Rattle.basics.specs.Sums.{sumOver}
 use Rattle.rules.specs.declared.State.{State}
 use Rattle.rules.specs.Units.{whole}
-use Rattle.rules.specs.AnyTable.{join as joinOf}
 use Rattle.rules.specs.Table.{total, stateAt}
-use Rattle.rules.specs.Join.{Match, matched, paired, fromFront, join}
+use Rattle.rules.specs.Join.{Match, matched, paired}
 use Rattle.rules.specs.Shape.{Every, Shaped}
 use Rattle.rules.proofs.Contents.{sub-shared-left, sub-shared-right}
 use Rattle.rules.proofs.Filling.{fewer-left, fewer-right}
 use Rattle.rules.proofs.Table.{Weight, weightOf, worthOf, worth}
 use Rattle.rules.proofs.Fold.{loose-at}
-use Rattle.rules.proofs.Join.{Uses, matched-worth, paired-worth, front-uses}
+use Rattle.rules.proofs.Join.{Uses, matched-worth, paired-worth}
 use Rattle.promises.proofs.Value.{Rises}
 
 -- by any pairing, where each pair weighs no less than the state on one side of it
@@ -40,7 +38,3 @@ module _ (N Z : ℕ) (ts : List ℕ) (M : ℕ) (f : Weight) (rises : Rises N Z t
     paired-above f P S T (λ p. p .right) T r l full
         (λ p. rises _ _ _ _ _ _ (sub-shared-right _ _) (le-max-right _ _) (fewer-right _ _) (loose-at N Z ts M (p .right) T b .small)),
   )
-
-  pub join-above : total S ≡ total T → (worth f S ≤ worth f (join S T)) × (worth f T ≤ worth f (join S T))
-  unfolding joinOf
-  join-above e = let (l, r) = front-uses S T e in pairing-above (fromFront S T) l r

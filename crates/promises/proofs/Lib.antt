@@ -23,5 +23,7 @@ pub mod Cycles
 pub mod BestValue
 pub mod BestTables
 pub mod BestMachine
+-- Document 01's own pairings, handed in
+pub mod Own
 -- The promises
 pub mod Promises

@@ -19,9 +19,10 @@ use Rattle.rules.specs.declared.Last.the-variants.{Unknown as unknown}
 use Rattle.rules.specs.Units.{whole}
 use Rattle.rules.specs.Contents.{places}
 use Rattle.rules.specs.Input.{Input, nodes}
+use Rattle.rules.specs.AnyTable.{Entries}
 use Rattle.rules.specs.Table.{begin, Work}
 use Rattle.rules.specs.Run.{run}
-use Rattle.rules.specs.Graph.{isCold, startsEmpty, atStart, finished}
+use Rattle.rules.specs.Graph.{isCold, startsEmpty, atStart, finished, finishedBy}
 use Rattle.rules.specs.declared.Start.{Start}
 use Rattle.rules.specs.declared.Start.the-variants.{Cold as cold, Warm as warm}
 use Rattle.rules.specs.declared.Filled.{Filled}
@@ -124,60 +125,61 @@ module _ (i : Input) (ok : Checked i) where
       ∙ ap₂ (λ (C : ℕ) (F : Filled). value W N (targetsOf (i .sets) (i .tracked) unknown p) C 0 F)
       (contents-start (i .tracked) (i .sets) N) filled
 
-  -- ---- so along every path
+  -- ---- so along every path, with any pairings
 
-  -- from a cache where the machine's sum is at most the value of the start, for every weight that rises
-  safe-from : (c : Cache)
-      → ((W : Weight) → Rises N (i .sets) (i .tracked) W → (p : List ℕ) → total (seen v (i .tracked) W) v N c p ≤ ahead W p)
-      → (path : List ℕ) → isPath i path ≡ true → (B : ℕ)
-      → countFrom (over B) v N c (accessesOf i path) * whole ≤ above B (finished i .table) * N ^ length (accessesOf i path)
-  safe-from c machine path p B =
-      rw (count-over v (i .tracked) B N c (accessesOf i path), ← worth-above B (finished i .table))
-      (omega (
+  module _ (q : Entries) where
+    -- from a cache where the machine's sum is at most the value of the start, for every weight that rises
+    safe-from : (c : Cache)
+        → ((W : Weight) → Rises N (i .sets) (i .tracked) W → (p : List ℕ) → total (seen v (i .tracked) W) v N c p ≤ ahead W p)
+        → (path : List ℕ) → isPath i path ≡ true → (B : ℕ)
+        → countFrom (over B) v N c (accessesOf i path) * whole ≤ above B (finishedBy q i .table) * N ^ length (accessesOf i path)
+    safe-from c machine path p B =
+        rw (count-over v (i .tracked) B N c (accessesOf i path), ← worth-above B (finishedBy q i .table))
+        (omega (
+          arith,
+          path-covers q i ok path p (oneWhere (overIs B)) (over-rises N (i .sets) (i .tracked) B),
+          machine (oneWhere (overIs B)) (over-rises N (i .sets) (i .tracked) B) (accessesOf i path),
+        ))
+
+    pub safe-start : (path : List ℕ) → isPath i path ≡ true → (B : ℕ)
+        → countFrom (over B) v N (start (i .sets) N) (accessesOf i path) * whole ≤ above B (finishedBy q i .table) * N ^ length (accessesOf i path)
+    safe-start = safe-from (start (i .sets) N) machine-start
+
+    pub safe-used-from : (c : Cache) → Built (i .sets) N c → c .misses ≡ 0 → startsEmpty i ≡ false → (path : List ℕ) → isPath i path ≡ true → (B : ℕ)
+        → countFrom (over B) v N c (accessesOf i path) * whole ≤ above B (finishedBy q i .table) * N ^ length (accessesOf i path)
+    safe-used-from c built fresh used = safe-from c (machine-used c built fresh used)
+
+    -- ---- a straight run
+
+    module _ (one : nodes i ≡ 1) where
+      -- as many units as the draws ahead, and those set aside; or the count has stopped
+      pub straight-high : (W : Weight) → ((C m : ℕ) (F : Filled) → W C m F ≤ 1)
+          → (finishedBy q i .aside ≡ whole)
+          ⊎ (worth W (finishedBy q i .table) * N ^ length (i .accesses) ≤ whole * ahead W (i .accesses) + finishedBy q i .aside * N ^ length (i .accesses))
+      straight-high W most = rw (straight q i ok one) (go (run-high N (i .sets) (i .limit) (i .tracked) (ok .some-ways) (ok .few-ways) (ok .some-sets) (ok .few-sets) (ok .some-states) W most 0 unknown (i .accesses) begun
+          (table-begin N (i .sets) (i .tracked) (i .limit) (ok .some-ways) (ok .few-ways) (ok .some-states) (atStart i) (start-most i ok))))
+        where
+          begun : Work
+          begun = record { table = begin (atStart i); aside = 0 }
+
+          v : Work
+          v = run N (i .sets) (i .limit) (i .tracked) unknown (i .accesses) begun
+
+          go : (v .aside ≡ whole)
+              ⊎ (N ^ length (i .accesses) * worth W (v .table) + 0 * N ^ length (i .accesses)
+              ≤ whole * ahead W (i .accesses) + 0 + v .aside * N ^ length (i .accesses))
+              → (v .aside ≡ whole)
+              ⊎ (worth W (v .table) * N ^ length (i .accesses) ≤ whole * ahead W (i .accesses) + v .aside * N ^ length (i .accesses))
+          go (inl e) = inl e
+          go (inr h) = inr (omega arith)
+
+      pub straight-even : (W : Weight) → finishedBy q i .aside ≡ 0
+          → worth W (finishedBy q i .table) * N ^ length (i .accesses) ≡ whole * ahead W (i .accesses)
+      straight-even W e = rw (straight q i ok one) (omega (
         arith,
-        path-covers i ok path p (oneWhere (overIs B)) (over-rises N (i .sets) (i .tracked) B),
-        machine (oneWhere (overIs B)) (over-rises N (i .sets) (i .tracked) B) (accessesOf i path),
+        run-even N (i .sets) (i .limit) (i .tracked) (ok .some-ways) (ok .few-ways) (ok .some-sets) (ok .few-sets) (ok .some-states) W 0 unknown (i .accesses) (record { table = begin (atStart i); aside = 0 })
+            (table-begin N (i .sets) (i .tracked) (i .limit) (ok .some-ways) (ok .few-ways) (ok .some-states) (atStart i) (start-most i ok)) (rw (straight q i ok one) at e) .1,
       ))
-
-  pub safe-start : (path : List ℕ) → isPath i path ≡ true → (B : ℕ)
-      → countFrom (over B) v N (start (i .sets) N) (accessesOf i path) * whole ≤ above B (finished i .table) * N ^ length (accessesOf i path)
-  safe-start = safe-from (start (i .sets) N) machine-start
-
-  pub safe-used-from : (c : Cache) → Built (i .sets) N c → c .misses ≡ 0 → startsEmpty i ≡ false → (path : List ℕ) → isPath i path ≡ true → (B : ℕ)
-      → countFrom (over B) v N c (accessesOf i path) * whole ≤ above B (finished i .table) * N ^ length (accessesOf i path)
-  safe-used-from c built fresh used = safe-from c (machine-used c built fresh used)
-
-  -- ---- a straight run
-
-  module _ (one : nodes i ≡ 1) where
-    -- as many units as the draws ahead, and those set aside; or the count has stopped
-    pub straight-high : (W : Weight) → ((C m : ℕ) (F : Filled) → W C m F ≤ 1)
-        → (finished i .aside ≡ whole)
-        ⊎ (worth W (finished i .table) * N ^ length (i .accesses) ≤ whole * ahead W (i .accesses) + finished i .aside * N ^ length (i .accesses))
-    straight-high W most = rw (straight i ok one) (go (run-high N (i .sets) (i .limit) (i .tracked) (ok .some-ways) (ok .few-ways) (ok .some-sets) (ok .few-sets) (ok .some-states) W most 0 unknown (i .accesses) begun
-        (table-begin N (i .sets) (i .tracked) (i .limit) (ok .some-ways) (ok .few-ways) (ok .some-states) (atStart i) (start-most i ok))))
-      where
-        begun : Work
-        begun = record { table = begin (atStart i); aside = 0 }
-
-        v : Work
-        v = run N (i .sets) (i .limit) (i .tracked) unknown (i .accesses) begun
-
-        go : (v .aside ≡ whole)
-            ⊎ (N ^ length (i .accesses) * worth W (v .table) + 0 * N ^ length (i .accesses)
-            ≤ whole * ahead W (i .accesses) + 0 + v .aside * N ^ length (i .accesses))
-            → (v .aside ≡ whole)
-            ⊎ (worth W (v .table) * N ^ length (i .accesses) ≤ whole * ahead W (i .accesses) + v .aside * N ^ length (i .accesses))
-        go (inl e) = inl e
-        go (inr h) = inr (omega arith)
-
-    pub straight-even : (W : Weight) → finished i .aside ≡ 0
-        → worth W (finished i .table) * N ^ length (i .accesses) ≡ whole * ahead W (i .accesses)
-    straight-even W e = rw (straight i ok one) (omega (
-      arith,
-      run-even N (i .sets) (i .limit) (i .tracked) (ok .some-ways) (ok .few-ways) (ok .some-sets) (ok .few-sets) (ok .some-states) W 0 unknown (i .accesses) (record { table = begin (atStart i); aside = 0 })
-          (table-begin N (i .sets) (i .tracked) (i .limit) (ok .some-ways) (ok .few-ways) (ok .some-states) (atStart i) (start-most i ok)) (rw (straight i ok one) at e) .1,
-    ))
 
 -- no more units are above a budget than there are
 pub below-whole : (i : Input) → outcomeSays (outcome i) .number ≡ 0 → (B : ℕ) → above B (finished i .table) ≤ whole

@@ -2,7 +2,7 @@
 -- that folds end at K states; and that every table of the work is one, at every node: rising, at most K states, each in shape, units totalling WHOLE.
 use mathlib.Core.Path.{_≡_, refl, sym, ap, _∙_}
 use mathlib.Core.Logic.{_≢_, _⊎_, inl, inr}
-use mathlib.Core.Bool.{Bool, true, false}
+use mathlib.Core.Bool.{Bool, true, false, cond, _&&_}
 use mathlib.Core.List.{List, [], _∷_, _++_, map, flatMap}
 use Prim.Native.Nat.{ℕ, zero, suc, _+_, _-_, _*_, _≤_, _<_, zero-le}
 use native.Mathlib.Nat.{le-refl, pos-of-ne-zero, eq-or-lt-of-le, le-of-suc-le-suc, not-suc-le-zero, zero-add, suc-add, add-suc}
@@ -16,15 +16,15 @@ use Rattle.basics.proofs.Sums.{sum-append, sum-map}
 use Rattle.rules.specs.declared.Pair.{Pair}
 use Rattle.rules.specs.Units.{whole, more}
 use Rattle.rules.specs.Contents.{Target, Last, block, among, targetOf}
-use Rattle.rules.specs.Input.{Input, nodes, offset, runOf, edgesOf, predecessors}
+use Rattle.rules.specs.Input.{Input, nodes, offset, runOf, edgesOf, predecessors, joinsTo}
 use Rattle.rules.specs.Ordered.{remove, best}
-use Rattle.rules.specs.AnyTable.{Listing, Match, plus, total, at, fromFront, Work, Kind, access, fewer, choice, foldAt, fold, foldsOf, folded, advance, run, matched, paired, join, Worked, tableAt, joinAll, enter, node, worked, finished}
+use Rattle.rules.specs.AnyTable.{Listing, Match, plus, total, at, fromFront, Work, Kind, access, fewer, choice, foldAt, fold, foldsOf, folded, advance, run, matched, paired, join, joinBy, Entry, noPairing, pairing, fits, Worked, tableAt, Entries, later, behind, joinOne, joinAllBy, enterBy, nodeBy, workedBy, finishedBy, entryFits, joinsFit}
 use Rattle.rules.specs.Shape.{Every, Present, Sound}
 use Rattle.rules.proofs.Splitting.{more-adds}
 use Rattle.rules.proofs.Lists.{every-remove, every-at, every-weaker, every-flatMap, length-remove, best-lt}
 use Rattle.rules.proofs.Ordered.{InOrder, in-order-rises, in-order-remove}
 use Rattle.rules.proofs.Listings.{Lawful, Weight, worthOf, worth, one, one-weight, worth-total, length-add-all, every-add, rising-add, worth-add, total-add, worth-remove, shaped-plus}
-use Rattle.rules.proofs.Pairings.{Uses, matched-worth, length-front, front-uses}
+use Rattle.rules.proofs.Pairings.{Uses, matched-worth, length-front, front-uses, fits-uses}
 use Rattle.rules.proofs.Refusals.{Checked, predecessor-lower}
 use Rattle.rules.proofs.Nodes.{first-and-others, each-node, run-long, offset-next, offset-rises, offset-most}
 
@@ -169,9 +169,26 @@ module _ {A : Type 0} (k : Kind A) where
     unfolding join
     join-total S T e full = paired-total (fromFront l S T) S T (front-uses l laws S T e .0) full
 
+    pub rising-paired : (P : List Match) (S T : List A) → InOrder (l .order) (paired k P S T)
+    unfolding paired
+    rising-paired P S T = rising-add l laws (map (matched k S T) P) [] tt
+
     pub rising-join : (S T : List A) → InOrder (l .order) (join k S T)
-    unfolding join paired
-    rising-join S T = rising-add l laws (map (matched k S T) (fromFront l S T)) [] tt
+    unfolding join
+    rising-join S T = rising-paired (fromFront l S T) S T
+
+    -- ---- a join by what is handed in
+
+    -- what is so of a join by any pairing that uses the units of both tables exactly is so of it
+    pub by-entry : (Q : List A → Type 0) (e : Entry) (S T : List A) → total l S ≡ total l T
+        → ((P : List Match) → Uses l (λ m. m .left) P S → Uses l (λ m. m .right) P T → Q (paired k P S T)) → Q (joinBy k e S T)
+    unfolding join
+    by-entry Q noPairing S T q h = let (a, b) = front-uses l laws S T q in h (fromFront l S T) a b
+    by-entry Q (pairing P) S T q h = go (fits l P S T) refl
+      where
+        go : (b : Bool) → fits l P S T ≡ b → Q (cond b (paired k P S T) (join k S T))
+        go true f = let (a, b) = fits-uses l P S T f in h P a b
+        go false f = let (a, b) = front-uses l laws S T q in h (fromFront l S T) a b
 
     -- ---- an access
 
@@ -288,27 +305,28 @@ module _ {A : Type 0} {k : Kind A} {P : ℕ → A → Type 0} (keeps : Keeps k P
           full = folded-total k laws K w (omega arith) ∙ e;
         }
 
-    pub sound-join : (M : ℕ) (S T : List A) (a : ℕ) → Sound li (P M) K S → Sound li (P M) K T
-        → Sound li (P M) K (folded k K (record { table = join k S T; aside = a }) .table)
-    sound-join M S T a s t =
-        sound-folded M _ (rising-join k laws S T) (shaped-join M S T (s .shaped) (t .shaped)) (join-total k laws S T (s .full ∙ sym (t .full)) (omega (arith, s .full)) ∙ s .full)
+    pub sound-join : (M : ℕ) (e : Entry) (w : Work A) (T : List A) → Sound li (P M) K (w .table) → Sound li (P M) K T → Sound li (P M) K (joinOne k e K w T .table)
+    sound-join M e w T s t =
+        by-entry k laws (λ U. Sound li (P M) K (folded k K (record { table = U; aside = w .aside }) .table)) e (w .table) T (s .full ∙ sym (t .full))
+        (λ Q left right. sound-folded M _ (rising-paired k laws Q (w .table) T) (shaped-paired M Q (w .table) T (s .shaped) (t .shaped))
+        (paired-total k laws Q (w .table) T left (omega (arith, s .full)) ∙ s .full))
 
     module _ (M : ℕ) (d : Worked A) where
-      pub sound-joinAll : (is : List ℕ) (w : Work A) → ((j : ℕ) → among is j ≡ true → Sound li (P M) K (tableAt d j))
-          → Sound li (P M) K (w .table) → Sound li (P M) K (joinAll k K d is w .table)
-      unfolding joinAll
-      sound-joinAll [] w h t = t
-      sound-joinAll (a ∷ is) w h t =
-          let (p, q) = first-and-others (λ j. Sound li (P M) K (tableAt d j)) a is h in
-          sound-joinAll is _ q (sound-join M (w .table) (tableAt d a) (w .aside) t p)
+      sound-joinAll : (q : Entries) (is : List ℕ) (w : Work A) → ((j : ℕ) → among is j ≡ true → Sound li (P M) K (tableAt d j))
+          → Sound li (P M) K (w .table) → Sound li (P M) K (joinAllBy k q K d is w .table)
+      unfolding joinAllBy
+      sound-joinAll q [] w h t = t
+      sound-joinAll q (a ∷ is) w h t =
+          let (p, rest) = first-and-others (λ j. Sound li (P M) K (tableAt d j)) a is h in
+          sound-joinAll (later q) is _ rest (sound-join M (q 0) w (tableAt d a) t p)
 
-      pub sound-enter : (s : A) → Starts li P s → (is : List ℕ) → ((j : ℕ) → among is j ≡ true → Sound li (P M) K (tableAt d j))
-          → Sound li (P M) K (enter k K s d is .table)
-      unfolding enter
-      sound-enter s starts [] h = sound-wider K 0 M (s ∷ []) zero-le (sound-start s starts)
-      sound-enter s starts (a ∷ is) h =
-          let (p, q) = first-and-others (λ j. Sound li (P M) K (tableAt d j)) a is h in
-          sound-joinAll is _ q p
+      pub sound-enter : (q : Entries) (s : A) → Starts li P s → (is : List ℕ) → ((j : ℕ) → among is j ≡ true → Sound li (P M) K (tableAt d j))
+          → Sound li (P M) K (enterBy k q K s d is .table)
+      unfolding enterBy
+      sound-enter q s starts [] h = sound-wider K 0 M (s ∷ []) zero-le (sound-start s starts)
+      sound-enter q s starts (a ∷ is) h =
+          let (p, rest) = first-and-others (λ j. Sound li (P M) K (tableAt d j)) a is h in
+          sound-joinAll q is _ rest p
 
 -- ---- an access, and a run
 
@@ -357,45 +375,63 @@ module _ {A : Type 0} {k : Kind A} {N : ℕ} {X : Target → Type 0} {P : ℕ �
 
 -- ---- the nodes that are worked
 
-module _ {A : Type 0} (k : Kind A) where
+-- with any pairings that are handed in
+
+module _ {A : Type 0} (k : Kind A) (K : ℕ) (d : Worked A) where
+  -- only what is handed in for each join matters
+  pub joins-alike : (q p : Entries) → ((m : ℕ) → q m ≡ p m) → (is : List ℕ) (w : Work A) → joinAllBy k q K d is w ≡ joinAllBy k p K d is w
+  unfolding joinAllBy
+  joins-alike q p e [] w = refl
+  joins-alike q p e (a ∷ is) w =
+      joins-alike (later q) (later p) (λ m. e (suc m)) is (joinOne k (q 0) K w (tableAt d a))
+      ∙ ap (λ (x : Entry). joinAllBy k (later p) K d is (joinOne k x K w (tableAt d a))) (e 0)
+
+  pub fit-alike : (q p : Entries) → ((m : ℕ) → q m ≡ p m) → (is : List ℕ) (w : Work A) → joinsFit k q K d is w ≡ joinsFit k p K d is w
+  unfolding joinsFit
+  fit-alike q p e [] w = refl
+  fit-alike q p e (a ∷ is) w =
+      ap (entryFits (k .listing) (q 0) (w .table) (tableAt d a) &&_) (fit-alike (later q) (later p) (λ m. e (suc m)) is (joinOne k (q 0) K w (tableAt d a)))
+      ∙ ap (λ (x : Entry). entryFits (k .listing) x (w .table) (tableAt d a) && joinsFit k (later p) K d is (joinOne k x K w (tableAt d a))) (e 0)
+
+module _ {A : Type 0} (k : Kind A) (q : Entries) where
   -- node j's table
   abbrev pub nodeTable : Input → ℕ → List A
-  nodeTable i j = node k i j (worked k i j) .table
+  nodeTable i j = nodeBy k q i j (workedBy k q i j) .table
 
-  length-worked : (i : Input) (n : ℕ) → length (worked k i n .tables) ≡ n
-  unfolding worked
+  length-worked : (i : Input) (n : ℕ) → length (workedBy k q i n .tables) ≡ n
+  unfolding workedBy
   length-worked i zero = refl
-  length-worked i (suc n) = omega (arith, length-append (worked k i n .tables) (nodeTable i n ∷ []), length-worked i n)
+  length-worked i (suc n) = omega (arith, length-append (workedBy k q i n .tables) (nodeTable i n ∷ []), length-worked i n)
 
   -- it stays as it was made
-  pub table-stays : (i : Input) (n j : ℕ) → j < n → tableAt (worked k i n) j ≡ nodeTable i j
-  unfolding worked
+  pub table-stays : (i : Input) (n j : ℕ) → j < n → tableAt (workedBy k q i n) j ≡ nodeTable i j
+  unfolding workedBy
   table-stays i zero j h = absurd (not-suc-le-zero h)
   table-stays i (suc n) j h = go (eq-or-lt-of-le (le-of-suc-le-suc h)) (table-stays i n j)
     where
-      go : (j ≡ n) ⊎ (j < n) → (j < n → tableAt (worked k i n) j ≡ nodeTable i j)
-          → getD (worked k i n .tables ++ (nodeTable i n ∷ [])) j [] ≡ nodeTable i j
-      go (inl e) ih = rw e (getD-at (worked k i n .tables) (nodeTable i n) [] [] n (length-worked i n))
-      go (inr b) ih = List·getD-append (worked k i n .tables) (nodeTable i n ∷ []) [] j (omega (arith, length-worked i n)) ∙ ih b
+      go : (j ≡ n) ⊎ (j < n) → (j < n → tableAt (workedBy k q i n) j ≡ nodeTable i j)
+          → getD (workedBy k q i n .tables ++ (nodeTable i n ∷ [])) j [] ≡ nodeTable i j
+      go (inl e) ih = rw e (getD-at (workedBy k q i n .tables) (nodeTable i n) [] [] n (length-worked i n))
+      go (inr b) ih = List·getD-append (workedBy k q i n .tables) (nodeTable i n ∷ []) [] j (omega (arith, length-worked i n)) ∙ ih b
 
-  pub finished-table : (i : Input) → 0 < nodes i → finished k i .table ≡ nodeTable i (nodes i - 1)
-  unfolding finished
+  pub finished-table : (i : Input) → 0 < nodes i → finishedBy k q i .table ≡ nodeTable i (nodes i - 1)
+  unfolding finishedBy
   finished-table i h = table-stays i (nodes i) (nodes i - 1) (omega arith)
 
-module _ {A : Type 0} {k : Kind A} {X : Target → Type 0} {P : ℕ → A → Type 0} (i : Input) (ok : Checked i) (follows : Follows k (i .ways) X P)
+module _ {A : Type 0} {k : Kind A} {X : Target → Type 0} {P : ℕ → A → Type 0} (q : Entries) (i : Input) (ok : Checked i) (follows : Follows k (i .ways) X P)
     (starts : Starts (k .listing) P (k .start i)) (aims : (p : Last) (b : ℕ) → X (targetOf (i .sets) (i .tracked) p b)) where
   abbrev pub NodeSound : ℕ → ℕ → Type 0
-  NodeSound M j = Sound (k .listing) (P M) (i .limit) (nodeTable k i j)
+  NodeSound M j = Sound (k .listing) (P M) (i .limit) (nodeTable k q i j)
 
   -- a node whose predecessors' tables are tables after at most M accesses
   pub sound-node : (M n : ℕ) → n < nodes i → ((a : ℕ) → among (predecessors (edgesOf (i .edges)) n) a ≡ true → NodeSound M a)
       → NodeSound (getD (i .lengths) n 0 + M) n
-  unfolding node
+  unfolding nodeBy
   sound-node M n h before =
       rw (← run-long i ok n h)
       (sound-run follows (i .limit) (ok .some-states) (i .sets) (i .tracked) aims M _ (runOf i n) _
-      (sound-enter (follows .keeps) (i .limit) (ok .some-states) M (worked k i n) (k .start i) starts (predecessors (edgesOf (i .edges)) n)
-      (λ a e. rw (table-stays k i n a (predecessor-lower i ok a n e .0)) (before a e))))
+      (sound-enter (follows .keeps) (i .limit) (ok .some-states) M (workedBy k q i n) (behind (joinsTo (edgesOf (i .edges)) n) q) (k .start i) starts (predecessors (edgesOf (i .edges)) n)
+      (λ a e. rw (table-stays k q i n a (predecessor-lower i ok a n e .0)) (before a e))))
 
   -- after at most the accesses up to the end of its node's run
   pub sound-so-far : (n : ℕ) → n < nodes i → NodeSound (offset (i .lengths) (suc n)) n
@@ -403,14 +439,14 @@ module _ {A : Type 0} {k : Kind A} {X : Target → Type 0} {P : ℕ → A → Ty
       each-node i ok (λ n. NodeSound (offset (i .lengths) (suc n)) n)
       (λ n h before. rw (offset-next (i .lengths) n h)
       (sound-node (offset (i .lengths) n) n h
-      (λ a e. sound-wider (follows .keeps) _ _ _ (nodeTable k i a)
+      (λ a e. sound-wider (follows .keeps) _ _ _ (nodeTable k q i a)
       (offset-rises (i .lengths) (suc a) n (predecessor-lower i ok a n e .0)) (before a e))))
 
   -- in all, at most the accesses
   pub node-sound : (j : ℕ) → j < nodes i → NodeSound (length (i .accesses)) j
   node-sound j h =
-      sound-wider (follows .keeps) _ _ _ (nodeTable k i j)
+      sound-wider (follows .keeps) _ _ _ (nodeTable k q i j)
       (omega (arith, offset-most (i .lengths) (suc j), ok .all-accesses)) (sound-so-far j h)
 
-  pub finished-sound : Sound (k .listing) (P (length (i .accesses))) (i .limit) (finished k i .table)
-  finished-sound = rw (finished-table k i (ok .some-nodes)) (node-sound (nodes i - 1) (omega (arith, ok .some-nodes)))
+  pub finished-sound : Sound (k .listing) (P (length (i .accesses))) (i .limit) (finishedBy k q i .table)
+  finished-sound = rw (finished-table k q i (ok .some-nodes)) (node-sound (nodes i - 1) (omega (arith, ok .some-nodes)))

@@ -14,7 +14,7 @@ use Rattle.rules.specs.Contents.{places, find, bit, with, without, share
 use Rattle.rules.specs.Input.{cold, Input, cache, inputIn, inputOf, offset, runOf, predecessors}
 use Rattle.rules.specs.Lasts.{agreeAll, lastBefore, nodeLast, lastsTo}
 use Rattle.rules.specs.Ordered.{insert, insertAll, remove, best}
-use Rattle.rules.specs.AnyTable.{add, walk, fromFront, access, choice, foldAt, fold, folded, advance, run, paired, join, joinAll, enter, node, worked, finished}
+use Rattle.rules.specs.AnyTable.{add, walk, fromFront, access, choice, foldAt, fold, folded, advance, run, paired, join, joinAllBy, enterBy, nodeBy, workedBy, finishedBy}
 use Rattle.rules.specs.Best.{BestState, exactState, openState, order, miss, successors, bestTable}
 use Rattle.rules.specs.Refusals.{edgesKept, bestReasons, bestVerdict, bestOutcome}
 
@@ -86,7 +86,7 @@ cases =
     ∷ []
 
 pub each-comes-out : map workedOut cases ≡ cases
-unfolding workedOut cases more places find bit with without shared heldBelow held size maskOf ofSet lastAfter targetOf offset runOf predecessors insert insertAll remove best order add miss successors access choice foldAt fold folded advance run paired walk fromFront join joinAll enter agreeAll lastBefore nodeLast lastsTo node worked finished bestTable flatMap edgesKept bestReasons bestVerdict bestOutcome
+unfolding workedOut cases more places find bit with without shared heldBelow held size maskOf ofSet lastAfter targetOf offset runOf predecessors insert insertAll remove best order add miss successors access choice foldAt fold folded advance run paired walk fromFront join joinAllBy enterBy agreeAll lastBefore nodeLast lastsTo nodeBy workedBy finishedBy bestTable flatMap edgesKept bestReasons bestVerdict bestOutcome
 each-comes-out = refl
 
 -- ---- refusals, in their order
@@ -123,5 +123,5 @@ refusals =
     ∷ []
 
 pub each-is-refused : map answered refusals ≡ refusals
-unfolding answered refusals more places find bit with without shared heldBelow held size maskOf ofSet lastAfter targetOf offset runOf predecessors insert insertAll remove best order add miss successors access choice foldAt fold folded advance run paired walk fromFront join joinAll enter agreeAll lastBefore nodeLast lastsTo node worked finished bestTable flatMap edgesKept bestReasons bestVerdict bestOutcome
+unfolding answered refusals more places find bit with without shared heldBelow held size maskOf ofSet lastAfter targetOf offset runOf predecessors insert insertAll remove best order add miss successors access choice foldAt fold folded advance run paired walk fromFront join joinAllBy enterBy agreeAll lastBefore nodeLast lastsTo nodeBy workedBy finishedBy bestTable flatMap edgesKept bestReasons bestVerdict bestOutcome
 each-is-refused = refl

@@ -17,7 +17,7 @@ use Rattle.rules.specs.Units.{whole}
 use Rattle.rules.specs.Answers.{bestSays}
 use Rattle.rules.specs.Input.{Input}
 use Rattle.rules.specs.Ordered.{rises}
-use Rattle.rules.specs.AnyTable.{total}
+use Rattle.rules.specs.AnyTable.{total, noPairings}
 use Rattle.rules.specs.Best.{BestState, missesOf, hitsOf, unitsOf, order, listing, bestTable}
 use Rattle.rules.specs.BestQuestions.{bestFitting, allBestFitting, isBestTable, missSpread, hitSpread, missesAbove, hitsAbove, missSpreadAnswer, hitSpreadAnswer}
 use Rattle.rules.specs.Refusals.{bestOutcome}
@@ -55,7 +55,7 @@ pub best-sound : (i : Input) → BestChecked i
 unfolding bestTable
 best-sound i ok =
     let c = ok .checked in
-    finished-sound i c (best-follow (i .ways) (i .sets) (i .tracked) (c .some-ways) (c .few-ways)) (best-start (i .ways) (i .sets) (i .tracked) (c .few-ways))
+    finished-sound noPairings i c (best-follow (i .ways) (i .sets) (i .tracked) (c .some-ways) (c .few-ways)) (best-start (i .ways) (i .sets) (i .tracked) (c .few-ways))
     (aimed (i .sets) (i .tracked) (c .some-sets) (c .few-sets))
 
 pub best-whole : (i : Input) → bestSays (bestOutcome i) .number ≡ 0 → total listing (bestTable i) ≡ whole

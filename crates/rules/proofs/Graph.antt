@@ -13,13 +13,13 @@ use lib.Seq.{getD-at}
 use borrow.Author.Tests.{eqb-true}
 use Rattle.rules.specs.Units.{whole}
 use Rattle.rules.specs.Contents.{Last, block, unknown, agreed, among, targetOf}
-use Rattle.rules.specs.Input.{Input, nodes, offset, runOf, edgesOf, predecessors}
+use Rattle.rules.specs.Input.{Input, nodes, offset, runOf, edgesOf, predecessors, joinsTo}
 use Rattle.rules.specs.Filling.{Filled, filledAt}
-use Rattle.rules.specs.AnyTable.{joinAll as joinAllOf, enter as enterOf, run as runOfAny, node as nodeOf, worked as workedOf}
+use Rattle.rules.specs.AnyTable.{Entries, later, behind, joinAllBy as joinAllOf, enterBy as enterOf, run as runOfAny, nodeBy as nodeOf, workedBy as workedOf}
 use Rattle.rules.specs.Table.{State, initial, listing, Work}
 use Rattle.rules.specs.Fold.{states}
 use Rattle.rules.specs.Run.{run}
-use Rattle.rules.specs.Graph.{Worked, tableAt, lastAt, joinAll, startsEmpty, atStart, enter, agreeAll, lastBefore, nodeLast, lastsTo, worked, finished}
+use Rattle.rules.specs.Graph.{Worked, tableAt, lastAt, joinAllBy, startsEmpty, atStart, enterBy, agreeAll, lastBefore, nodeLast, lastsTo, workedBy, finishedBy}
 use Rattle.rules.specs.Shape.{Loose, Table}
 use Rattle.rules.proofs.Refusals.{Checked}
 use Rattle.rules.proofs.Filling.{evenly-most}
@@ -29,19 +29,19 @@ use Rattle.rules.proofs.AnyTable.{Starts, sound-enter, nodeTable as nod
 use Rattle.rules.proofs.Fold.{folded-aside, states-keep, states-start}
 use Rattle.rules.proofs.Run.{advance-aside, table-wider, states-follow}
 
--- ---- the nodes that are worked
+-- ---- the nodes that are worked, with any pairings q
 
 -- node j's table
-abbrev pub nodeTable : Input → ℕ → List State
-nodeTable i j = nodeTableOf states i j
+abbrev pub nodeTable : Entries → Input → ℕ → List State
+nodeTable q i j = nodeTableOf states q i j
 
 -- its last block, where it is known
 abbrev pub lastOf : Input → ℕ → Last
 lastOf i j = nodeLast i j (lastsTo i j)
 
 -- it stays as it was made
-pub table-stays : (i : Input) (n j : ℕ) → j < n → tableAt (worked i n) j ≡ nodeTable i j
-table-stays i n j l = table-stays-any states i n j l
+pub table-stays : (q : Entries) (i : Input) (n j : ℕ) → j < n → tableAt (workedBy q i n) j ≡ nodeTable q i j
+table-stays q i n j l = table-stays-any states q i n j l
 
 -- and so does its last block
 length-lasts : (i : Input) (n : ℕ) → length (lastsTo i n) ≡ n
@@ -59,15 +59,15 @@ last-stays i (suc n) j l = go (eq-or-lt-of-le (le-of-suc-le-suc l)) (last-stays 
     go (inl e) ih = rw e (getD-at (lastsTo i n) (lastOf i n) [] unknown n (length-lasts i n))
     go (inr k) ih = List·getD-append (lastsTo i n) (lastOf i n ∷ []) unknown j (omega (arith, length-lasts i n)) ∙ ih k
 
-pub finished-table : (i : Input) → 0 < nodes i → finished i .table ≡ nodeTable i (nodes i - 1)
-finished-table i h = finished-table-any states i h
+pub finished-table : (q : Entries) (i : Input) → 0 < nodes i → finishedBy q i .table ≡ nodeTable q i (nodes i - 1)
+finished-table q i h = finished-table-any states q i h
 
 -- ---- what each starts from
 
 module _ (N Z : ℕ) (ts : List ℕ) (K : ℕ) (some : 0 < N) (few : N ≤ 16) (room : 0 < K) (M : ℕ) (d : Worked) where
-  pub table-enter : (F : Filled) → ((j : ℕ) → filledAt F j ≤ N) → (is : List ℕ) → ((j : ℕ) → among is j ≡ true → Table N Z ts K M (tableAt d j))
-      → Table N Z ts K M (enter K F d is .table)
-  table-enter F most is h = sound-enter (states-keep N Z ts) K room M d (initial F) (states-start N Z ts F most) is h
+  pub table-enter : (q : Entries) (F : Filled) → ((j : ℕ) → filledAt F j ≤ N) → (is : List ℕ) → ((j : ℕ) → among is j ≡ true → Table N Z ts K M (tableAt d j))
+      → Table N Z ts K M (enterBy q K F d is .table)
+  table-enter q F most is h = sound-enter (states-keep N Z ts) K room M d q (initial F) (states-start N Z ts F most) is h
 
 -- ---- the last block
 
@@ -111,15 +111,15 @@ module _ (ls : List Last) where
 -- ---- the set-aside count, which stops at WHOLE
 
 module _ (K : ℕ) (d : Worked) where
-  aside-joinAll : (is : List ℕ) (w : Work) → w .aside ≤ whole → joinAll K d is w .aside ≤ whole
+  aside-joinAll : (q : Entries) (is : List ℕ) (w : Work) → w .aside ≤ whole → joinAllBy q K d is w .aside ≤ whole
   unfolding joinAllOf
-  aside-joinAll [] w h = h
-  aside-joinAll (a ∷ is) w h = aside-joinAll is _ (folded-aside K _ h)
+  aside-joinAll q [] w h = h
+  aside-joinAll q (a ∷ is) w h = aside-joinAll (later q) is _ (folded-aside K _ h)
 
-  pub aside-enter : (F : Filled) (is : List ℕ) → d .aside ≤ whole → enter K F d is .aside ≤ whole
+  pub aside-enter : (q : Entries) (F : Filled) (is : List ℕ) → d .aside ≤ whole → enterBy q K F d is .aside ≤ whole
   unfolding enterOf
-  aside-enter F [] h = h
-  aside-enter F (a ∷ is) h = aside-joinAll is _ h
+  aside-enter q F [] h = h
+  aside-enter q F (a ∷ is) h = aside-joinAll q is _ h
 
 aside-run : (N Z K : ℕ) (ts : List ℕ) (l : Last) (bs : List ℕ) (w : Work) → w .aside ≤ whole
     → run N Z K ts l bs w .aside ≤ whole
@@ -127,12 +127,12 @@ unfolding runOfAny
 aside-run N Z K ts l [] w h = h
 aside-run N Z K ts l (b ∷ bs) w h = aside-run N Z K ts (block b) bs _ (advance-aside N K (targetOf Z ts l b) w)
 
-pub aside-worked : (i : Input) (n : ℕ) → worked i n .aside ≤ whole
+pub aside-worked : (q : Entries) (i : Input) (n : ℕ) → workedBy q i n .aside ≤ whole
 unfolding workedOf nodeOf
-aside-worked i zero = omega arith
-aside-worked i (suc n) =
+aside-worked q i zero = omega arith
+aside-worked q i (suc n) =
     aside-run (i .ways) (i .sets) (i .limit) (i .tracked) _ (runOf i n) _
-    (aside-enter (i .limit) (worked i n) (atStart i) (predecessors (edgesOf (i .edges)) n) (aside-worked i n))
+    (aside-enter (i .limit) (workedBy q i n) (behind (joinsTo (edgesOf (i .edges)) n) q) (atStart i) (predecessors (edgesOf (i .edges)) n) (aside-worked q i n))
 
 -- ---- the start
 
@@ -148,24 +148,24 @@ start-most i ok j =
 
 -- ---- every node
 
-module _ (i : Input) (ok : Checked i) where
+module _ (q : Entries) (i : Input) (ok : Checked i) where
   begins : Starts listing (Loose (i .ways) (i .sets) (i .tracked)) (initial (atStart i))
   begins = states-start (i .ways) (i .sets) (i .tracked) (atStart i) (start-most i ok)
 
   abbrev pub NodeTable : ℕ → ℕ → Type 0
-  NodeTable M j = Table (i .ways) (i .sets) (i .tracked) (i .limit) M (nodeTable i j)
+  NodeTable M j = Table (i .ways) (i .sets) (i .tracked) (i .limit) M (nodeTable q i j)
 
   -- a node whose predecessors' tables are tables of at most M misses
   pub table-node : (M n : ℕ) → n < nodes i → ((a : ℕ) → among (predecessors (edgesOf (i .edges)) n) a ≡ true → NodeTable M a)
       → NodeTable (getD (i .lengths) n 0 + M) n
-  table-node = sound-node i ok (states-follow (i .ways) (i .sets) (i .tracked) (ok .some-ways) (ok .few-ways)) begins (aimed (i .sets) (i .tracked) (ok .some-sets) (ok .few-sets))
+  table-node = sound-node q i ok (states-follow (i .ways) (i .sets) (i .tracked) (ok .some-ways) (ok .few-ways)) begins (aimed (i .sets) (i .tracked) (ok .some-sets) (ok .few-sets))
 
   -- the misses of the first n nodes are at most the accesses of their runs
   pub every-node : (n : ℕ) → n ≤ nodes i → (j : ℕ) → j < n → NodeTable (offset (i .lengths) n) j
   every-node n l j k =
-      table-wider _ _ _ _ _ _ (nodeTable i j) (offset-rises (i .lengths) (suc j) n k)
-      (sound-so-far i ok (states-follow (i .ways) (i .sets) (i .tracked) (ok .some-ways) (ok .few-ways)) begins (aimed (i .sets) (i .tracked) (ok .some-sets) (ok .few-sets)) j (omega arith))
+      table-wider _ _ _ _ _ _ (nodeTable q i j) (offset-rises (i .lengths) (suc j) n k)
+      (sound-so-far q i ok (states-follow (i .ways) (i .sets) (i .tracked) (ok .some-ways) (ok .few-ways)) begins (aimed (i .sets) (i .tracked) (ok .some-sets) (ok .few-sets)) j (omega arith))
 
   -- in all, at most the accesses
   pub node-table : (j : ℕ) → j < nodes i → NodeTable (length (i .accesses)) j
-  node-table = node-sound i ok (states-follow (i .ways) (i .sets) (i .tracked) (ok .some-ways) (ok .few-ways)) begins (aimed (i .sets) (i .tracked) (ok .some-sets) (ok .few-sets))
+  node-table = node-sound q i ok (states-follow (i .ways) (i .sets) (i .tracked) (ok .some-ways) (ok .few-ways)) begins (aimed (i .sets) (i .tracked) (ok .some-sets) (ok .few-sets))

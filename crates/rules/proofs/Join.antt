@@ -12,7 +12,6 @@ use Rattle.rules.specs.Join.{Match, matched, paired, leftAfter, fromFron
 use Rattle.rules.specs.Shape.{Every, Shaped}
 use Rattle.rules.proofs.Fold.{states-keep}
 use Rattle.rules.proofs.Table.{states-lawful, weigh-weight, Rising, Weight, weightOf, worthOf, worth}
-pub use Rattle.rules.proofs.Pairings.{usedAt}
 use Rattle.rules.proofs.Pairings.{Uses as UsesOf, matched-worth as matched-worth-any, length-after as length-after-any, front-uses as front-uses-any}
 use Rattle.rules.proofs.AnyTable.{paired-worth as paired-worth-any, join-total as join-total-any, rising-join as rising-join-any, length-join as length-join-any, shaped-join as shaped-join-any}
 

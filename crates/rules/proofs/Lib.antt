@@ -27,6 +27,8 @@ pub mod Join
 -- The tables of runs and graphs
 pub mod Run
 pub mod Graph
+-- What is handed in for the joins
+pub mod Entries
 -- The first revision among them
 pub mod Revisions
 -- What is known before the first access

@@ -15,7 +15,8 @@ use Rattle.basics.proofs.Bools.{or-left, or-right}
 use Rattle.rules.specs.Contents.{among}
 use Rattle.rules.specs.Input.{Input, nodes, offset, edgesOf, predecessors}
 use Rattle.rules.specs.Table.{State}
-use Rattle.rules.specs.Graph.{finished}
+use Rattle.rules.specs.AnyTable.{Entries, noPairings}
+use Rattle.rules.specs.Graph.{finished, finishedBy}
 use Rattle.rules.specs.Counts.{largest as largestOf}
 use Rattle.rules.specs.Questions.{largest}
 use Rattle.rules.specs.Shape.{Every, Shaped}
@@ -131,16 +132,19 @@ unfolding largestOf
 shaped-largest N Z ts M [] h = zero-le
 shaped-largest N Z ts M (s ∷ T) h = max-le (h .0 .0 .few) (shaped-largest N Z ts M T (h .1))
 
-module _ (i : Input) (ok : Checked i) where
+module _ (q : Entries) (i : Input) (ok : Checked i) where
   -- a table's misses are at most the accesses of the longest path to its node
-  table-within : (n : ℕ) → n < nodes i → NodeTable i ok (upTo i n) n
+  table-within : (n : ℕ) → n < nodes i → NodeTable q i ok (upTo i n) n
   table-within =
-      each-node i ok (λ n. NodeTable i ok (upTo i n) n)
+      each-node i ok (λ n. NodeTable q i ok (upTo i n) n)
       (λ n l h. rw (add-comm (longestBefore i n) (getD (i .lengths) n 0))
-      (table-node i ok (longestBefore i n) n l (λ a e. table-wider _ _ _ _ _ _ (nodeTable i a) (before-each i ok n a e) (h a e))))
+      (table-node q i ok (longestBefore i n) n l (λ a e. table-wider _ _ _ _ _ _ (nodeTable q i a) (before-each i ok n a e) (h a e))))
 
   -- and so are the finished table's those of the longest path
-  pub finished-within : largest (finished i .table) ≤ longest i
-  finished-within =
-      rw (finished-table i (ok .some-nodes), longest-is i (ok .some-nodes))
-      (shaped-largest _ _ _ _ (nodeTable i (nodes i - 1)) (table-within (nodes i - 1) (omega (arith, ok .some-nodes)) .shaped))
+  pub within-longest : largest (finishedBy q i .table) ≤ longest i
+  within-longest =
+      rw (finished-table q i (ok .some-nodes), longest-is i (ok .some-nodes))
+      (shaped-largest _ _ _ _ (nodeTable q i (nodes i - 1)) (table-within (nodes i - 1) (omega (arith, ok .some-nodes)) .shaped))
+
+pub finished-within : (i : Input) → Checked i → largest (finished i .table) ≤ longest i
+finished-within i ok = within-longest noPairings i ok

@@ -21,9 +21,9 @@ use Rattle.rules.specs.Units.{whole, units}
 use Rattle.rules.specs.Answers.{outcomeSays, amountSays}
 use Rattle.rules.specs.Input.{Input, nodes}
 use Rattle.rules.specs.Filling.{numbersOf}
-use Rattle.rules.specs.AnyTable.{total as totalOf}
+use Rattle.rules.specs.AnyTable.{Entries, noPairings, total as totalOf}
 use Rattle.rules.specs.Table.{State, noState, unitsOf, rising, total, stateAt}
-use Rattle.rules.specs.Graph.{finished}
+use Rattle.rules.specs.Graph.{finished, finishedBy}
 use Rattle.rules.specs.Counts.{largest as largestOf, spread as spreadOf}
 use Rattle.rules.specs.Questions.{allMost, missesOf, fitting, allFitting, isTable, unitsAt, largest, countsBelow, spread, above, leastFrom, least, smallestBudget, aboveAnswer, budgetAnswer, spreadAnswer}
 use Rattle.rules.specs.Refusals.{outcome}
@@ -191,18 +191,18 @@ table-is N Z ts K M T n a b c t =
     some [] e = absurd (omega arith)
     some (s ∷ T) e = omega arith
 
--- the finished table of an accepted input
-finished-good : (i : Input) → Checked i → Table (i .ways) (i .sets) (i .tracked) (i .limit) (length (i .accesses)) (finished i .table)
-finished-good i ok =
-    rw (finished-table i (ok .some-nodes)) (node-table i ok (nodes i - 1) (omega (arith, ok .some-nodes)))
+-- the finished table of an accepted input, with any pairings: its units total WHOLE, and it is a table
+pub good-table : (q : Entries) (i : Input) → Checked i → (total (finishedBy q i .table) ≡ whole) × (isTable (finishedBy q i .table) ≡ true)
+good-table q i ok = (good .full, table-is _ _ _ _ _ (finishedBy q i .table) (ok .few-ways) (ok .few-tracked) (ok .few-states) (ok .few-accesses) good)
+  where
+    good : Table (i .ways) (i .sets) (i .tracked) (i .limit) (length (i .accesses)) (finishedBy q i .table)
+    good = rw (finished-table q i (ok .some-nodes)) (node-table q i ok (nodes i - 1) (omega (arith, ok .some-nodes)))
 
 pub finished-whole : (i : Input) → outcomeSays (outcome i) .number ≡ 0 → total (finished i .table) ≡ whole
-finished-whole i h = finished-good i (accepted i h) .full
+finished-whole i h = good-table noPairings i (accepted i h) .0
 
 pub finished-is-table : (i : Input) → outcomeSays (outcome i) .number ≡ 0 → isTable (finished i .table) ≡ true
-finished-is-table i h =
-    let ok = accepted i h in
-    table-is _ _ _ _ _ (finished i .table) (ok .few-ways) (ok .few-tracked) (ok .few-states) (ok .few-accesses) (finished-good i ok)
+finished-is-table i h = good-table noPairings i (accepted i h) .1
 
 -- ---- the answers
 

@@ -13,7 +13,7 @@ use Rattle.rules.specs.Units.{more}
 use Rattle.rules.specs.Contents.{places, Target, Last, block, among, bit, hits, without, shared, held, size, targetOf}
 use Rattle.rules.specs.Filling.{Filled, filledAt, evenly, fillOne}
 use Rattle.rules.specs.Ordered.{remove}
-use Rattle.rules.specs.AnyTable.{access as accessOf, foldAt as foldAtOf, advance as advanceOf, run as runOfAny, paired as pairedOf, join as joinOf, joinAll as joinAllOf, enter as enterOf, node as nodeOf}
+use Rattle.rules.specs.AnyTable.{access as accessOf, foldAt as foldAtOf, advance as advanceOf, run as runOfAny, paired as pairedOf, join as joinOf, noPairing, noPairings, joinAllBy as joinAllOf, enterBy as enterOf, nodeBy as nodeOf}
 use Rattle.rules.specs.Table.{State, unitsOf, noState, total, stateAt, Work}
 use Rattle.rules.specs.Step.{atRisk, missed, restOf, miss, successors, access}
 use Rattle.rules.specs.Fold.{meet, foldAt, folded}
@@ -167,7 +167,7 @@ module _ (i : Input) (ok : Checked i) (first : i .revision ≡ 1) where
     full-joinAll (a ∷ is) w h g =
         let (p, rest) = first-and-others (λ j. Good (tableAt d j)) a is h in
         full-joinAll is _ rest (
-          sound-join (states-keep N Z (i .tracked)) K room M (w .table) (tableAt d a) (w .aside) (g .0) (p .0),
+          sound-join (states-keep N Z (i .tracked)) K room M noPairing w (tableAt d a) (g .0) (p .0),
           full-folded N Z (ok .few-ways) (ok .few-sets) K _
               (full-join N Z (ok .few-ways) (ok .few-sets) (w .table) (tableAt d a) (g .0 .full ∙ sym (p .0 .full)) (g .1) (p .1)),
         )
@@ -183,12 +183,12 @@ module _ (i : Input) (ok : Checked i) (first : i .revision ≡ 1) where
   pub finished-full : AllFull (finished i .table)
   unfolding nodeOf
   finished-full =
-      rw (finished-table i (ok .some-nodes))
-      (each-node i ok (λ n. AllFull (nodeTable i n)) step (nodes i - 1) (omega (arith, ok .some-nodes)))
+      rw (finished-table noPairings i (ok .some-nodes))
+      (each-node i ok (λ n. AllFull (nodeTable noPairings i n)) step (nodes i - 1) (omega (arith, ok .some-nodes)))
     where
-      step : (n : ℕ) → n < nodes i → ((a : ℕ) → among (predecessors (edgesOf (i .edges)) n) a ≡ true → AllFull (nodeTable i a)) → AllFull (nodeTable i n)
+      step : (n : ℕ) → n < nodes i → ((a : ℕ) → among (predecessors (edgesOf (i .edges)) n) a ≡ true → AllFull (nodeTable noPairings i a)) → AllFull (nodeTable noPairings i n)
       step n l h =
           full-run N Z (ok .few-ways) (ok .few-sets) (i .limit) (i .tracked) (ok .some-sets) _ (runOf i n) _
           (full-enter (i .limit) (ok .some-states) (length (i .accesses)) (worked i n) (predecessors (edgesOf (i .edges)) n)
           (λ a e. let a<n = predecessor-lower i ok a n e .0 in
-          rw (table-stays i n a a<n) (node-table i ok a (omega (arith, a<n)), h a e)))
+          rw (table-stays noPairings i n a a<n) (node-table noPairings i ok a (omega (arith, a<n)), h a e)))

@@ -1,7 +1,7 @@
 -- The work does not look at the rooms, and the answer only at whether they are long enough: with room for 64 result states and 5,184 working
 -- states it is what it is with exactly the room that is needed.
 use mathlib.Core.Path.{_≡_, refl, ap, ap₂, _∙_}
-use mathlib.Core.Bool.{Bool, true, false}
+use mathlib.Core.Bool.{Bool, true, false, _&&_}
 use mathlib.Core.List.{List, [], _∷_, _++_}
 use Prim.Native.Nat.{ℕ, zero, suc, _-_, _≤_}
 use native.Mathlib.Nat.{le-refl}
@@ -14,10 +14,10 @@ use Rattle.rules.specs.declared.Verdict.the-variants.{Accepted, Refused}
 use Rattle.rules.specs.declared.Outcome.the-variants.{Finished}
 use Rattle.rules.specs.Units.{units}
 use Rattle.rules.specs.Contents.{Last}
-use Rattle.rules.specs.Input.{Input, inputIn, inputOf, runOf, edgesOf, predecessors}
-use Rattle.rules.specs.AnyTable.{Kind, Worked as AnyWorked, run as runAny, enter as enterAny, node as nodeOf, worked as workedOf, finished as finishedOf}
+use Rattle.rules.specs.Input.{Input, inputIn, inputOf, runOf, edgesOf, predecessors, joinsTo}
+use Rattle.rules.specs.AnyTable.{Kind, Worked as AnyWorked, Entries, noPairings, behind, run as runAny, enterBy as enterAny, nodeBy as nodeOf, workedBy as workedOf, finishedBy as finishedOf, allFit as allFitOf}
 use Rattle.rules.specs.Table.{Work}
-use Rattle.rules.specs.Graph.{Worked, tableAt, atStart, lastBefore, nodeLast, lastsTo, worked, finished}
+use Rattle.rules.specs.Graph.{Worked, tableAt, atStart, lastBefore, nodeLast, lastsTo, workedBy, finished, enterFits, allFit}
 use Rattle.rules.specs.Fold.{states}
 use Rattle.rules.specs.Refusals.{outside, reasons, verdict, answered, outcome}
 use Rattle.rules.proofs.Refusals.{within}
@@ -34,26 +34,32 @@ module _ (c : Cache) (K : ℕ) (ts ns bs es : List ℕ) (r w : ℕ) where
 
   -- for any kind of table whose start does not look at the rooms
   module _ {A : Type 0} (k : Kind A) (starts : k .start (inputOf c K ts ns bs es) ≡ k .start (inputIn c K ts ns bs es r w)) where
-    pub same-worked-any : (n : ℕ) → workedOf k (inputOf c K ts ns bs es) n ≡ workedOf k (inputIn c K ts ns bs es r w) n
+    pub same-worked-any : (q : Entries) (n : ℕ) → workedOf k q (inputOf c K ts ns bs es) n ≡ workedOf k q (inputIn c K ts ns bs es r w) n
     unfolding workedOf nodeOf runOf
-    same-worked-any zero = refl
-    same-worked-any (suc n) =
-        ap₂ (λ (d : AnyWorked A) (ls : List Last). after (k .start (inputOf c K ts ns bs es)) d ls) (same-worked-any n) (same-lasts n)
-        ∙ ap (λ (s : A). after s (workedOf k (inputIn c K ts ns bs es r w) n) (lastsTo (inputIn c K ts ns bs es r w) n)) starts
+    same-worked-any q zero = refl
+    same-worked-any q (suc n) =
+        ap₂ (λ (d : AnyWorked A) (ls : List Last). after (k .start (inputOf c K ts ns bs es)) d ls) (same-worked-any q n) (same-lasts n)
+        ∙ ap (λ (s : A). after s (workedOf k q (inputIn c K ts ns bs es r w) n) (lastsTo (inputIn c K ts ns bs es r w) n)) starts
       where
         after : A → AnyWorked A → List Last → AnyWorked A
         after s d ls =
             let ps = predecessors (edgesOf es) n in
-            let v = runAny k (c .ways) (c .sets) K ts (lastBefore ls ps) (runOf (inputOf c K ts ns bs es) n) (enterAny k K s d ps) in
+            let v = runAny k (c .ways) (c .sets) K ts (lastBefore ls ps) (runOf (inputOf c K ts ns bs es) n) (enterAny k (behind (joinsTo (edgesOf es) n) q) K s d ps) in
             record { tables = d .tables ++ (v .table ∷ []); aside = v .aside }
 
-  pub same-worked : (n : ℕ) → worked (inputOf c K ts ns bs es) n ≡ worked (inputIn c K ts ns bs es r w) n
+  pub same-worked : (q : Entries) (n : ℕ) → workedBy q (inputOf c K ts ns bs es) n ≡ workedBy q (inputIn c K ts ns bs es r w) n
   unfolding atStart
-  same-worked n = same-worked-any states refl n
+  same-worked q n = same-worked-any states refl q n
+
+  pub same-fit : (q : Entries) (n : ℕ) → allFit q (inputOf c K ts ns bs es) n ≡ allFit q (inputIn c K ts ns bs es r w) n
+  unfolding allFitOf
+  same-fit q zero = refl
+  same-fit q (suc n) =
+      ap₂ (λ (b : Bool) (d : Worked). b && enterFits (behind (joinsTo (edgesOf es) n) q) K d (predecessors (edgesOf es) n)) (same-fit q n) (same-worked q n)
 
   pub same-finished : finished (inputOf c K ts ns bs es) ≡ finished (inputIn c K ts ns bs es r w)
   unfolding finishedOf
-  same-finished = ap (λ (d : Worked). record { table = tableAt d (length ns - 1); aside = d .aside }) (same-worked (length ns))
+  same-finished = ap (λ (d : Worked). record { table = tableAt d (length ns - 1); aside = d .aside }) (same-worked noPairings (length ns))
 
   module _ (result : 64 ≤ r) (working : 5184 ≤ w) where
     same-verdict : verdict (inputOf c K ts ns bs es) ≡ verdict (inputIn c K ts ns bs es r w)

@@ -14,7 +14,7 @@ use Rattle.rules.specs.Units.{units}
 use Rattle.rules.specs.Contents.{Place, at, untracked, has, Last, find, hits, targetOf, lastAfter}
 use Rattle.rules.specs.Input.{Start, cold, warm, Input, cache, inputIn, nodes, runOf, edgesOf, predecessors}
 use Rattle.rules.specs.Filling.{filledAt}
-use Rattle.rules.specs.AnyTable.{node as nodeOf, worked as workedOf, finished as finishedOf}
+use Rattle.rules.specs.AnyTable.{nodeBy as nodeOf, workedBy as workedOf, finishedBy as finishedOf}
 use Rattle.rules.specs.Table.{Work}
 use Rattle.rules.specs.Run.{run}
 use Rattle.rules.specs.Graph.{Worked, tableAt, startsEmpty, atStart, enter, lastBefore, nodeLast, lastsTo, worked, finished}

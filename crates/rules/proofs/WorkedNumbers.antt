@@ -9,7 +9,7 @@ use Rattle.rules.specs.Contents.{places, find, bit, with, without, share
 use Rattle.rules.specs.Filling.{bytesOf, wordFrom, numbersOf, filledFrom, filledAt, withFilled, ofSets, evenly, fillOne, fullest}
 use Rattle.rules.specs.Input.{cold, warm, Input, cache, inputOf, offset, runOf, predecessors}
 use Rattle.rules.specs.Ordered.{insert, insertAll, remove, best}
-use Rattle.rules.specs.AnyTable.{add, access, walk, fromFront, choice, foldAt, fold, folded, advance, run, paired, join, joinAll, enter, node, worked, finished as finishedOf}
+use Rattle.rules.specs.AnyTable.{add, access, walk, fromFront, choice, foldAt, fold, folded, advance, run, paired, join, joinAllBy, enterBy, nodeBy, workedBy, finishedBy as finishedOf}
 use Rattle.rules.specs.Table.{State, state, order}
 use Rattle.rules.specs.Step.{atRisk, miss, successors, leftOver}
 use Rattle.rules.specs.Graph.{atStart, agreeAll, lastBefore, nodeLast, lastsTo, finished}
@@ -94,5 +94,5 @@ cases =
     ∷ []
 
 pub each-comes-out : map workedOut cases ≡ cases
-unfolding workedOut cases more places find bit with without shared heldBelow held size maskOf ofSet lastAfter targetOf bytesOf wordFrom numbersOf filledFrom filledAt withFilled ofSets fillOne fullest atRisk offset runOf predecessors insert insertAll remove best order add miss successors leftOver access choice foldAt fold folded advance run paired walk fromFront join joinAll atStart enter agreeAll lastBefore nodeLast lastsTo node worked finishedOf edgesKept reasons verdict outcome flatMap
+unfolding workedOut cases more places find bit with without shared heldBelow held size maskOf ofSet lastAfter targetOf bytesOf wordFrom numbersOf filledFrom filledAt withFilled ofSets fillOne fullest atRisk offset runOf predecessors insert insertAll remove best order add miss successors leftOver access choice foldAt fold folded advance run paired walk fromFront join joinAllBy atStart enterBy agreeAll lastBefore nodeLast lastsTo nodeBy workedBy finishedOf edgesKept reasons verdict outcome flatMap
 each-comes-out = refl

@@ -3,7 +3,7 @@ use mathlib.Core.Bool.{Bool, cond}
 use mathlib.Core.List.{List, [], _∷_}
 use Prim.Native.Nat.{ℕ}
 use Rattle.rules.specs.declared.Refusal.{Refusal}
-use Rattle.rules.specs.declared.Refusal.the-variants.{Text, Ways, Limit, Tracked, Accesses, Graph, Room, Row, SpreadRoom, Sets, Revision, NoCore, UntrackedAccess, SecondRevision, TraceLength, TraceRoom, ListingRoom, Listing, Expansion, Nightly}
+use Rattle.rules.specs.declared.Refusal.the-variants.{Text, Ways, Limit, Tracked, Accesses, Graph, Room, Row, SpreadRoom, Sets, Revision, NoCore, UntrackedAccess, SecondRevision, TraceLength, TraceRoom, ListingRoom, Listing, Expansion, Nightly, Pairing}
 use Rattle.rules.specs.declared.Verdict.{Verdict}
 use Rattle.rules.specs.declared.Verdict.the-variants.{Accepted, Refused}
 use Rattle.rules.specs.declared.Outcome.{Outcome}
@@ -44,6 +44,7 @@ numberOf TraceRoom = 21
 numberOf ListingRoom = 22
 numberOf Listing = 14
 numberOf Expansion = 15
+numberOf Pairing = 19
 numberOf Nightly = 20
 
 -- ---- the first that applies

@@ -1,7 +1,7 @@
--- Tables and the work on them, whatever their states are: document 01, section 3; document 02, request 3/13. Document 01's table is one kind
--- (Fold.antt), the best case's (document 02, request 10/13; Best.antt) is another. What is the same for all kinds is said here once; what a kind
--- makes of its states, it says in a record.
-use mathlib.Core.Bool.{Bool, true, false, cond}
+-- Tables and the work on them, whatever their states are: document 01, section 3; document 02, requests 3/13 and 11/13. Document 01's table is one
+-- kind (Fold.antt), the best case's (document 02, request 10/13; Best.antt) is another. What is the same for all kinds is said here once; what a kind
+-- makes of its states, it says in a record. The work on a graph is said for any pairings that are handed in; without any it is document 01's.
+use mathlib.Core.Bool.{Bool, true, false, cond, _&&_}
 use mathlib.Core.List.{List, [], _∷_, _++_, map, flatMap}
 use Prim.Native.Nat.{ℕ, zero, suc, _+_, _-_, min}
 use lib.Dec.{eqb, ltb, leb}
@@ -10,7 +10,7 @@ use Rattle.basics.specs.Sums.{sumOver}
 use Rattle.rules.specs.declared.Pair.{Pair}
 use Rattle.rules.specs.Units.{more}
 use Rattle.rules.specs.Contents.{Target, Last, block, targetOf}
-use Rattle.rules.specs.Input.{Input, nodes, runOf, edgesOf, predecessors}
+use Rattle.rules.specs.Input.{Input, nodes, runOf, edgesOf, predecessors, joinsTo}
 use Rattle.rules.specs.Lasts.{lastBefore, lastsTo}
 use Rattle.rules.specs.Ordered.{Order, insertAll, remove, best}
 
@@ -28,6 +28,24 @@ pub record Match : Type 0 where
   pub left : ℕ
   pub right : ℕ
   pub units : ℕ
+
+-- for a join: a pairing, or none
+pub data Entry : Type 0 where
+  noPairing : Entry
+  pairing : List Match → Entry
+
+-- the units that a pairing uses at a place; `side` is which table
+abbrev pub usedAt : (Match → ℕ) → ℕ → List Match → ℕ
+usedAt side a P = sumOver (λ m. cond (eqb (side m) a) (m .units) 0) P
+
+-- a pair has at least 1 unit, a place of the m of one table and a place of the n of the other
+abbrev pub isPair : ℕ → ℕ → Match → Bool
+isPair m n p = ltb 0 (p .units) && ltb (p .left) m && ltb (p .right) n
+
+-- each has
+unfoldable pub placesExist : ℕ → ℕ → List Match → Bool
+placesExist m n [] = true
+placesExist m n (p ∷ P) = isPair m n p && placesExist m n P
 
 module _ {A : Type 0} (l : Listing A) where
   open Listing l using (units, having, order, none)
@@ -84,6 +102,22 @@ module _ {A : Type 0} (l : Listing A) where
   -- each step uses up a state of one of the two, so that as many steps as there are states are enough
   unfoldable pub fromFront : List A → List A → List Match
   fromFront S T = walk (length S + length T) 0 0 S T
+
+  -- ---- a pairing that is handed in
+
+  -- the units of each state, from place a on, are used exactly
+  unfoldable pub usesFrom : (Match → ℕ) → List Match → ℕ → List A → Bool
+  usesFrom side P a [] = true
+  usesFrom side P a (s ∷ T) = eqb (usedAt side a P) (units s) && usesFrom side P (suc a) T
+
+  -- it is accepted: each pair has units, every place exists, and each state's units are used exactly
+  unfoldable pub fits : List Match → List A → List A → Bool
+  fits P S T = placesExist (length S) (length T) P && usesFrom (λ p. p .left) P 0 S && usesFrom (λ p. p .right) P 0 T
+
+  -- a pairing or none: none is always accepted
+  abbrev pub entryFits : Entry → List A → List A → Bool
+  entryFits noPairing S T = true
+  entryFits (pairing P) S T = fits P S T
 
 -- ---- what a kind makes of its states
 
@@ -173,6 +207,11 @@ module _ {A : Type 0} (k : Kind A) where
   unfoldable pub join : List A → List A → List A
   join S T = paired (fromFront l S T) S T
 
+  -- by the pairing that is handed in; where there is none, or none that is accepted, from the front
+  abbrev pub joinBy : Entry → List A → List A → List A
+  joinBy noPairing S T = join S T
+  joinBy (pairing P) S T = cond (fits l P S T) (paired P S T) (join S T)
+
 -- the tables of the nodes that are worked, and the units set aside over all of them
 pub record Worked (A : Type 0) : Type 0 where
   pub tables : List (List A)
@@ -182,31 +221,96 @@ pub record Worked (A : Type 0) : Type 0 where
 abbrev pub tableAt : {A : Type 0} → Worked A → ℕ → List A
 tableAt d j = getD (d .tables) j []
 
+-- ---- a graph
+
+-- for each join of a graph, in working order, a pairing or none
+abbrev pub Entries : Type 0
+Entries = ℕ → Entry
+
+-- none everywhere
+abbrev pub noPairings : Entries
+noPairings n = noPairing
+
+-- those behind the first
+abbrev pub later : Entries → Entries
+later q m = q (suc m)
+
+-- those behind the first n
+abbrev pub behind : ℕ → Entries → Entries
+behind n q m = q (n + m)
+
 module _ {A : Type 0} (k : Kind A) where
-  -- the tables of the nodes ps joined to that of w: one at a time, each join folded before the next
-  unfoldable pub joinAll : ℕ → Worked A → List ℕ → Work A → Work A
-  joinAll K d [] w = w
-  joinAll K d (p ∷ ps) w = joinAll K d ps (folded k K (record { table = join k (w .table) (tableAt d p); aside = w .aside }))
+  -- a table joined to that of w, and folded
+  abbrev pub joinOne : Entry → ℕ → Work A → List A → Work A
+  joinOne e K w T = folded k K (record { table = joinBy k e (w .table) T; aside = w .aside })
+
+  -- the tables of the nodes ps joined to that of w: one at a time, each join folded before the next; q has an entry for each
+  unfoldable pub joinAllBy : Entries → ℕ → Worked A → List ℕ → Work A → Work A
+  joinAllBy q K d [] w = w
+  joinAllBy q K d (p ∷ ps) w = joinAllBy (later q) K d ps (joinOne (q 0) K w (tableAt d p))
 
   -- what a node starts from, whose predecessors are ps: the first one's table, with the others joined to it; node 0 from the start, s
-  unfoldable pub enter : ℕ → A → Worked A → List ℕ → Work A
-  enter K s d [] = record { table = s ∷ []; aside = d .aside }
-  enter K s d (p ∷ ps) = joinAll K d ps (record { table = tableAt d p; aside = d .aside })
+  unfoldable pub enterBy : Entries → ℕ → A → Worked A → List ℕ → Work A
+  enterBy q K s d [] = record { table = s ∷ []; aside = d .aside }
+  enterBy q K s d (p ∷ ps) = joinAllBy q K d ps (record { table = tableAt d p; aside = d .aside })
 
   -- node j, after the nodes before it: its run, from where it starts
-  unfoldable pub node : Input → ℕ → Worked A → Work A
-  node i j d =
+  unfoldable pub nodeBy : Entries → Input → ℕ → Worked A → Work A
+  nodeBy q i j d =
       let ps = predecessors (edgesOf (i .edges)) j in
-      run k (i .ways) (i .sets) (i .limit) (i .tracked) (lastBefore (lastsTo i j) ps) (runOf i j) (enter (i .limit) (k .start i) d ps)
+      run k (i .ways) (i .sets) (i .limit) (i .tracked) (lastBefore (lastsTo i j) ps) (runOf i j)
+      (enterBy (behind (joinsTo (edgesOf (i .edges)) j) q) (i .limit) (k .start i) d ps)
 
   -- so many nodes from the first on, worked in order
-  unfoldable pub worked : Input → ℕ → Worked A
-  worked i zero = record { tables = []; aside = 0 }
-  worked i (suc j) =
-      let d = worked i j in
-      let w = node i j d in
+  unfoldable pub workedBy : Entries → Input → ℕ → Worked A
+  workedBy q i zero = record { tables = []; aside = 0 }
+  workedBy q i (suc j) =
+      let d = workedBy q i j in
+      let w = nodeBy q i j d in
       record { tables = d .tables ++ (w .table ∷ []); aside = w .aside }
 
   -- the finished table is the last node's, and the set-aside count is that of all nodes
-  unfoldable pub finished : Input → Work A
-  finished i = let d = worked i (nodes i) in record { table = tableAt d (nodes i - 1); aside = d .aside }
+  unfoldable pub finishedBy : Entries → Input → Work A
+  finishedBy q i = let d = workedBy q i (nodes i) in record { table = tableAt d (nodes i - 1); aside = d .aside }
+
+  -- ---- whether each pairing that is handed in is accepted
+
+  -- at the joins of a node
+  unfoldable pub joinsFit : Entries → ℕ → Worked A → List ℕ → Work A → Bool
+  joinsFit q K d [] w = true
+  joinsFit q K d (p ∷ ps) w =
+      entryFits (k .listing) (q 0) (w .table) (tableAt d p) && joinsFit (later q) K d ps (joinOne (q 0) K w (tableAt d p))
+
+  -- at a node whose predecessors are ps
+  unfoldable pub enterFits : Entries → ℕ → Worked A → List ℕ → Bool
+  enterFits q K d [] = true
+  enterFits q K d (p ∷ ps) = joinsFit q K d ps (record { table = tableAt d p; aside = d .aside })
+
+  -- at so many nodes from the first on
+  unfoldable pub allFit : Entries → Input → ℕ → Bool
+  allFit q i zero = true
+  allFit q i (suc j) =
+      let es = edgesOf (i .edges) in
+      allFit q i j && enterFits (behind (joinsTo es j) q) (i .limit) (workedBy q i j) (predecessors es j)
+
+  -- ---- document 01's: every join from the front
+
+  -- the tables of the nodes ps joined to that of w
+  abbrev pub joinAll : ℕ → Worked A → List ℕ → Work A → Work A
+  joinAll K d ps w = joinAllBy noPairings K d ps w
+
+  -- what a node starts from, whose predecessors are ps
+  abbrev pub enter : ℕ → A → Worked A → List ℕ → Work A
+  enter K s d ps = enterBy noPairings K s d ps
+
+  -- node j, after the nodes before it
+  abbrev pub node : Input → ℕ → Worked A → Work A
+  node i j d = nodeBy noPairings i j d
+
+  -- so many nodes from the first on, worked in order
+  abbrev pub worked : Input → ℕ → Worked A
+  worked i n = workedBy noPairings i n
+
+  -- the finished table, and the set-aside count
+  abbrev pub finished : Input → Work A
+  finished i = finishedBy noPairings i

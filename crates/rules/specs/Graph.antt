@@ -1,8 +1,9 @@
--- A graph: document 01, section 3; document 02, requests 3/13, 6/13 and 12/13. Each node is worked once, in order, from the joined tables of its
--- predecessors: said for every kind of table (AnyTable.antt), and here for document 01's.
+-- A graph: document 01, section 3; document 02, requests 3/13, 6/13, 11/13 and 12/13. Each node is worked once, in order, from the joined tables of its
+-- predecessors: said for every kind of table (AnyTable.antt), and here for document 01's, without pairings that are handed in and with them.
+use mathlib.Core.Bool.{Bool}
 use mathlib.Core.List.{List}
 use Prim.Native.Nat.{ℕ}
-use Rattle.rules.specs.AnyTable.{Worked as AnyWorked, tableAt as tableAtOf, joinAll as joinAllOf, enter as enterOf, node as nodeOf, worked as workedOf, finished as finishedOf}
+use Rattle.rules.specs.AnyTable.{Worked as AnyWorked, tableAt as tableAtOf, joinAll as joinAllOf, enter as enterOf, node as nodeOf, worked as workedOf, finished as finishedOf, Entries, joinAllBy as joinAllByOf, enterBy as enterByOf, workedBy as workedByOf, finishedBy as finishedByOf, joinsFit as joinsFitOf, enterFits as enterFitsOf, allFit as allFitOf}
 use Rattle.rules.specs.Input.{Input}
 use Rattle.rules.specs.Filling.{Filled}
 use Rattle.rules.specs.Table.{State, initial, Work}
@@ -38,3 +39,33 @@ worked i n = workedOf states i n
 -- the finished table is the last node's, and the set-aside count is that of all nodes
 abbrev pub finished : Input → Work
 finished i = finishedOf states i
+
+-- ---- with a pairing or none for each join
+
+-- the tables of the nodes ps joined to that of w
+abbrev pub joinAllBy : Entries → ℕ → Worked → List ℕ → Work → Work
+joinAllBy q K d ps w = joinAllByOf states q K d ps w
+
+-- what a node starts from, whose predecessors are ps
+abbrev pub enterBy : Entries → ℕ → Filled → Worked → List ℕ → Work
+enterBy q K F d ps = enterByOf states q K (initial F) d ps
+
+-- so many nodes from the first on, worked in order
+abbrev pub workedBy : Entries → Input → ℕ → Worked
+workedBy q i n = workedByOf states q i n
+
+-- the finished table, and the set-aside count
+abbrev pub finishedBy : Entries → Input → Work
+finishedBy q i = finishedByOf states q i
+
+-- each pairing that is handed in is accepted, at the joins of the nodes ps to w
+abbrev pub joinsFit : Entries → ℕ → Worked → List ℕ → Work → Bool
+joinsFit q K d ps w = joinsFitOf states q K d ps w
+
+-- at a node whose predecessors are ps
+abbrev pub enterFits : Entries → ℕ → Worked → List ℕ → Bool
+enterFits q K d ps = enterFitsOf states q K d ps
+
+-- at so many nodes from the first on
+abbrev pub allFit : Entries → Input → ℕ → Bool
+allFit q i n = allFitOf states q i n

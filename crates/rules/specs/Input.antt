@@ -1,7 +1,7 @@
 -- What comes in: document 01, section 2; document 02, requests 1/13, 6/13 and 12/13.
 use mathlib.Core.Bool.{cond}
 use mathlib.Core.List.{List, [], _∷_}
-use Prim.Native.Nat.{ℕ}
+use Prim.Native.Nat.{ℕ, zero, suc, _+_, _-_}
 use lib.Dec.{eqb}
 use lib.ListN.{length, getD, take, drop}
 use Rattle.basics.specs.Sums.{sumOver}
@@ -77,3 +77,12 @@ edgesOf (a ∷ b ∷ ns) = record { from = a; to = b } ∷ edgesOf ns
 unfoldable pub predecessors : List Edge → ℕ → List ℕ
 predecessors [] j = []
 predecessors (e ∷ es) j = cond (eqb (e .to) j) (e .from ∷ predecessors es j) (predecessors es j)
+
+-- the joins at node j: one for each predecessor but the first
+abbrev pub joinsAt : List Edge → ℕ → ℕ
+joinsAt es j = length (predecessors es j) - 1
+
+-- the joins at the nodes before node j
+unfoldable pub joinsTo : List Edge → ℕ → ℕ
+joinsTo es zero = 0
+joinsTo es (suc j) = joinsTo es j + joinsAt es j

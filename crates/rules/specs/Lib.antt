@@ -24,6 +24,8 @@ pub mod Questions
 pub mod BestQuestions
 -- Section 5: when the work says no
 pub mod Refusals
+-- Request 11/13: a pairing or none for each join
+pub mod Entries
 -- Request 9/13: curves in cycles
 pub mod Longest
 pub mod Cycles

@@ -206,6 +206,7 @@ pub enum Refusal {
     ListingRoom,
     Listing,
     Expansion,
+    Pairing,
     Nightly,
 }
 
@@ -234,6 +235,7 @@ impl Refusal {
             Refusal::ListingRoom => 22,
             Refusal::Listing => 14,
             Refusal::Expansion => 15,
+            Refusal::Pairing => 19,
             Refusal::Nightly => 20,
         }
     }

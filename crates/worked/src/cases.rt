@@ -7,17 +7,13 @@ use crate::lines::next_line;
 use crate::lines::read_fields;
 use crate::listings::listing_line;
 use crate::nights::night_line;
+use crate::numbers::say_both;
 use crate::report::Report;
 use crate::tables::allowed_line;
 use crate::tables::ladder_line;
 use crate::tables::row_line;
 use crate::tables::time_line;
 use crate::traces::trace_line;
-
-fn say_both(what: &[u8], name: &[u8]) {
-    io::write_all(1, what);
-    io::write_all(1, name);
-}
 
 // What is written of a line first: what it is about, and its name. A worked case writes its name itself, and of the others nothing is written.
 fn say_name(kind: u8, name: &[u8]) {
@@ -38,7 +34,7 @@ fn say_name(kind: u8, name: &[u8]) {
 // A line of a graph, of a row, of a listing, of a list of graphs, or of a trace. One that begins with another letter is a remark, or empty.
 fn case(kind: u8, name: &[u8], line: &[u64], trace: &mut [u8], report: Report) -> Report {
     match kind {
-        b'w' | b'r' | b'p' | b'f' => graph_line(kind, name, line, report),
+        b'w' | b'r' | b'p' | b'f' | b'j' => graph_line(kind, name, line, report),
         b'q' => row_line(line, field_of(line, 3), report),
         b't' => time_line(line, field_of(line, 2), report),
         b'a' => allowed_line(line, field_of(line, 2), report),

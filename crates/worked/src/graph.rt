@@ -12,7 +12,10 @@ use crate::lines::numbers_of;
 use crate::lines::small;
 use crate::numbers::say;
 use crate::numbers::say_answer;
+use crate::numbers::say_both;
 use crate::numbers::say_states;
+use crate::pairs::call_paired;
+use crate::pairs::compare_unpaired;
 use crate::report::Report;
 use crate::rooms::first;
 use crate::rooms::has_only;
@@ -91,7 +94,7 @@ fn cache_of(line: &[u64]) -> Cache {
     }
 }
 
-// Both calls on the lists of a line; the second is that of the best case, where the line is a `floor`. Its first field has the cache and the limit.
+// Both calls on the lists of a line; the second is that of the best case, where the line is a `floor`, and with pairings, where it is `joined`. Its first field has the cache and the limit.
 fn both(
     kind: u8,
     line: &[u64],
@@ -120,6 +123,12 @@ fn both(
                 result,
                 work,
             ),
+        );
+    }
+    if kind == b'j' {
+        return got_of(
+            longest,
+            call_paired(cache, line, tracked, runs, accesses, edges, result, work),
         );
     }
     got_of(
@@ -195,6 +204,29 @@ fn compare_path(said: Said, accesses: u64, report: Report) -> Report {
         .compared(said.value == accesses)
 }
 
+// A graph with pairings: the table and its curve, or a refusal, of which 19 leaves the working room zero.
+fn compare_joined(
+    name: &[u8],
+    got: Got,
+    answer: u64,
+    result: &[u64],
+    work: &[u64],
+    states: &[u64],
+    aside: u64,
+    report: Report,
+) -> Report {
+    if answer == 0 {
+        let asked = say_case(name, got, result, states, report);
+        return compare_table(got, result, work, states, aside, asked);
+    }
+    say_both(b"pairings: ", name);
+    say_answer(got.refusal);
+    if answer == 19 {
+        return compare_unpaired(result, work, report.compared(got.refusal == 19));
+    }
+    compare_refusal(got, result, work, answer, report)
+}
+
 // What was got of a line, and the states that it has to be.
 fn compare(
     kind: u8,
@@ -211,6 +243,9 @@ fn compare(
         return compare_path(got.longest, answer, report);
     }
     let aside = number(line, 7, 1);
+    if kind == b'j' {
+        return compare_joined(name, got, answer, result, work, states, aside, report);
+    }
     let paths = compare_longest(got.longest, answer, count(line, 4), report);
     if kind == b'w' {
         let asked = say_case(name, got, result, states, paths);

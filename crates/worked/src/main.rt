@@ -20,6 +20,7 @@ mod lines;
 mod listings;
 mod nights;
 mod numbers;
+mod pairs;
 mod report;
 mod rooms;
 mod said;

@@ -15,6 +15,11 @@ pub(crate) fn say(words: &[u8], n: u64) {
     io::write_all(1, b"\n");
 }
 
+pub(crate) fn say_both(what: &[u8], name: &[u8]) {
+    io::write_all(1, what);
+    io::write_all(1, name);
+}
+
 // What a call answered, in words.
 pub(crate) fn say_answer(refusal: u64) {
     if refusal == 0 {

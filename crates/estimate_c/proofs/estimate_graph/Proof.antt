@@ -8,17 +8,9 @@ use Rattle.estimate_c.proofs.estimate_graph.Tie as tie
 returns : tie.Need-returns
 returns c =
     let called = c .before .before .before .before .before .before .before in
-    let a = called .before .before .before .before .before .before .before .before .before .before .args in
-    graph-given _ (now (a .states)) (now (a .aside)) (c .before .count .given .1)
-    (rw (called .before .before .before .cache-named .ensures) at (called .analyse .ensures))
-
-returns-2 : tie.Need-returns-2
-returns-2 c =
-    let called = c .before .before .before .before .before .before .before .before in
-    let a = called .before .before .before .before .before .before .before .before .before .before .args in
-    rw (c .number .ensures)
-    (graph-given _ (now (a .states)) (now (a .aside)) (c .before .before .reason .given .1)
-    (rw (called .before .before .before .cache-named .ensures) at (called .analyse .ensures)))
+    let named = called .before .before .before in
+    let a = named .before .before .before .before .before .before .before .args in
+    graph-given (now (a .states)) (now (a .aside)) (c .give-outcome .ensures) (rw (named .cache-named .ensures) at (called .analyse .ensures))
 
 pub estimate-graph-spec : {M : Type 1} → statement M
 estimate-graph-spec =
@@ -26,12 +18,7 @@ estimate-graph-spec =
     (tie.spec
     (λ c κs. search needs)
     (λ c κs. search needs)
-    (λ c. search needs)
-    (λ c. search needs)
     (λ c κs. search needs)
     (λ c. search needs)
     (λ c. search needs)
-    returns
-    (λ c. search needs)
-    (λ c. search needs)
-    returns-2)
+    returns)

@@ -1,55 +1,65 @@
 -- `join_others` joins one table at a time. The invariant of its loop: the slots before the node's are as they were, and the tables to come, joined to
--- what stands in its slot, make what all of them make of what stood there at the start.
+-- what stands in its slot, make what all of them make of what stood there at the start; so with whether what is handed in is accepted.
 use mathlib.Core.Path.{_≡_, refl, _∙_}
+use mathlib.Core.Bool.{_&&_}
 use Prim.Native.Nat.{_+_, _-_, _*_, _≤_, _<_}
 use native.Mathlib.Omega.{arith}
 use denote.Ref.{now}
 use lib.ListN.{length, getD, take}
 use Rattle.rules.specs.Shape.{Every}
-use Rattle.rules.specs.Graph.{joinAll}
+use Rattle.rules.specs.AnyTable.{behind}
+use Rattle.rules.specs.Graph.{joinAllBy, joinsFit}
+use Rattle.rules.specs.Entries.{entryOf}
 use Rattle.rules.proofs.Fold.{length-folded}
 use Rattle.words.specs.Tables.{tableOf}
 use Rattle.estimate.specs.Rooms.{workedIn}
 use Rattle.estimate.specs.Edges.{cameFrom, AtEdge}
 use Rattle.estimate.specs.Working.{workAt}
 use Rattle.estimate.proofs.Nodes.{counted-few}
-use Rattle.estimate.proofs.Graphs.{into-here, into-none, lower-here, join-turn, joined}
+use Rattle.estimate.proofs.Graphs.{into-here, into-none, lower-here, join-turn, fit-turn, joined}
 use borrow.Author.Needs.{needs}
 use Rattle.estimate.proofs.graph.join_others.Statement.{statement}
 use Rattle.estimate.proofs.graph.join_others.Tie as tie
 
 abbrev Inv-loop : tie.InvT-loop
-Inv-loop work₀ to edges after limit so-far₀ e₀ work so-far e =
+Inv-loop work₀ to edges after limit counts rows joins so-far₀ number₀ e₀ work so-far number e =
     (e ≤ length edges) × AtEdge edges to e × (length work ≡ length work₀) × (so-far .states ≤ 64)
     × (take (to * 64) (tableOf work) ≡ take (to * 64) (tableOf work₀)) × Every (λ p. p < to) (cameFrom edges to e)
-    × (joinAll limit (workedIn to (so-far₀ .aside .0) (tableOf work₀)) (cameFrom edges to e) (workAt (to * 64) (so-far .states) (so-far .aside .0) work)
-    ≡ joinAll limit (workedIn to (so-far₀ .aside .0) (tableOf work₀)) (cameFrom edges to after) (workAt (to * 64) (so-far₀ .states) (so-far₀ .aside .0) work₀))
+    × (joinAllBy (behind number (entryOf counts rows)) limit (workedIn to (so-far₀ .aside .0) (tableOf work₀)) (cameFrom edges to e) (workAt (to * 64) (so-far .states) (so-far .aside .0) work)
+    ≡ joinAllBy (behind joins (entryOf counts rows)) limit (workedIn to (so-far₀ .aside .0) (tableOf work₀)) (cameFrom edges to after) (workAt (to * 64) (so-far₀ .states) (so-far₀ .aside .0) work₀))
+    × ((so-far .fits && joinsFit (behind number (entryOf counts rows)) limit (workedIn to (so-far₀ .aside .0) (tableOf work₀)) (cameFrom edges to e) (workAt (to * 64) (so-far .states) (so-far .aside .0) work))
+    ≡ (so-far₀ .fits && joinsFit (behind joins (entryOf counts rows)) limit (workedIn to (so-far₀ .aside .0) (tableOf work₀)) (cameFrom edges to after) (workAt (to * 64) (so-far₀ .states) (so-far₀ .aside .0) work₀)))
+    × (number ≤ joins + e)
 
 abbrev μ-loop : tie.MeasureT-loop
-μ-loop work₀ to edges after limit so-far₀ e₀ work so-far e = length edges - e
+μ-loop work₀ to edges after limit counts rows joins so-far₀ number₀ e₀ work so-far number e = length edges - e
 
 loop-holds : tie.Need-loop-holds Inv-loop μ-loop
 loop-holds c = let n = c .next-edge .ensures in
-    (n .1, n .2, refl, c .before .before .before .pre .2, refl, rw (n .3) (c .before .before .before .pre .6), rw (n .3) refl)
+    let p = c .before .before .before .before .before .pre in
+    (n .1, n .2, refl, p .2, refl, rw (n .3) (p .6), rw (n .3) refl, rw (n .3) refl, omega arith)
 
 cast-from : tie.Need-cast-from Inv-loop μ-loop
-cast-from c = omega (arith, c .shared-slice-known2 .given (c .before .before .loop .e))
+cast-from c = omega (arith, c .shared-slice-known4 .given (c .before .before .loop .e))
 
 mul-from-2 : tie.Need-mul-from-2 Inv-loop μ-loop
-mul-from-2 c = omega (arith, c .shared-slice-known2 .given (c .before .before .loop .e))
+mul-from-2 c = omega (arith, c .shared-slice-known4 .given (c .before .before .loop .e))
 
 count-requires : tie.Need-count-requires Inv-loop μ-loop
-count-requires c κs = let a = c .before .before .before .before .before .before .before .args in
+count-requires c κs = let a = c .before .before .before .before .before .before .before .before .before .args in
     let l = c .before .before .before .loop in
     let low = lower-here (now (a .edges)) (a .to) (l .e) (l .inv .1) (c .before .before .loop-test .taken) (l .inv .5) in
-    omega (arith, low .0, l .inv .2, c .before .before .before .before .before .before .before .pre .0, c .before .before .before .before .before .before .before .pre .1)
+    omega (arith, low .0, l .inv .2, c .before .before .before .before .before .before .before .before .before .pre .0, c .before .before .before .before .before .before .before .before .before .pre .1)
 
 join-to-requires : tie.Need-join-to-requires Inv-loop μ-loop
-join-to-requires c κs = let a = c .before .before .before .before .before .before .before .before .before .args in
+join-to-requires c κs = let a = c .before .before .before .before .before .before .before .before .before .before .before .args in
     let l = c .before .before .before .before .before .loop in
-    let p = c .before .before .before .before .before .before .before .before .before .pre in
+    let p = c .before .before .before .before .before .before .before .before .before .before .before .pre in
     let low = lower-here (now (a .edges)) (a .to) (l .e) (l .inv .1) (c .before .before .before .before .loop-test .taken) (l .inv .5) in
-    (omega (arith, l .inv .2, p .0), omega (arith, p .1), l .inv .3, omega (arith, low .0, p .1), counted-few (getD (now (a .edges)) (l .e) 0) _ (tableOf (l .work)) (c .before .count .ensures), p .4, p .5)
+    (omega (arith, l .inv .2, p .0), omega (arith, p .1), l .inv .3, omega (arith, low .0, p .1), counted-few (getD (now (a .edges)) (l .e) 0) _ (tableOf (l .work)) (c .before .count .ensures), p .4, p .5, p .7)
+
+add-number : tie.Need-add-number Inv-loop μ-loop
+add-number c = omega (arith, c .before .before .before .before .before .before .before .before .loop .inv .8, c .before .before .before .before .before .before .before .before .loop .inv .0, c .before .before .before .before .before .before .before .before .before .before .before .before .before .before .pre .8, c .before .before .before .before .before .before .before .loop-test .taken)
 
 next-edge-requires-2 : tie.Need-next-edge-requires-2 Inv-loop μ-loop
 next-edge-requires-2 c κs = omega (arith, c .before .before .before .before .before .before .before .before .loop .inv .1 (c .before .before .before .before .before .before .before .loop-test .taken) .0)
@@ -58,31 +68,36 @@ loop-less : tie.Need-loop-less Inv-loop μ-loop
 loop-less c = omega (arith, c .next-edge2 .ensures .0, c .next-edge2 .ensures .1)
 
 loop-again : tie.Need-loop-again Inv-loop μ-loop
-loop-again c = let a = c .before .before .before .before .before .before .before .before .before .before .before .before .before .args in
+loop-again c = let a = c .before .before .before .before .before .before .before .before .before .before .before .before .before .before .before .args in
     let l = c .before .before .before .before .before .before .before .before .before .loop in
-    let p = c .before .before .before .before .before .before .before .before .before .before .before .before .before .pre in
+    let p = c .before .before .before .before .before .before .before .before .before .before .before .before .before .before .before .pre in
     let ns = now (a .edges) in
     let g = c .before .before .before .join-to in
     let n = c .next-edge2 .ensures in
     let here = l .inv .1 (c .before .before .before .before .before .before .before .before .loop-test .taken) in
     let low = lower-here ns (a .to) (l .e) (l .inv .1) (c .before .before .before .before .before .before .before .before .loop-test .taken) (l .inv .5) in
-    let few : g .result .states ≤ a .limit = rw (g .ensures .stands .count) (length-folded (a .limit) _ (p .4)) in (
+    let few : g .result .states ≤ a .limit = rw (g .ensures .0 .stands .count) (length-folded (a .limit) _ (p .4)) in (
       n .1,
       n .2,
       search needs,
       omega (arith, few, p .5),
-      g .ensures .before ∙ l .inv .4,
+      g .ensures .0 .before ∙ l .inv .4,
       rw (n .3) (low .1),
       rw (n .3)
-          (join-turn (a .limit) (a .to) (a .tally .aside .0) (tableOf (now (a .work))) (cameFrom ns (a .to) (l .e)) (cameFrom ns (a .to) (l .e + 2)) (getD ns (l .e) 0) (l .so-far .states) (l .so-far .aside .0) (g .result .states) (g .result .aside .0) (c .before .before .before .before .before .count .result) (l .work) (g .last .0) _
-          (into-here ns (a .to) (l .e) (here .0) (here .1)) (low .0) (c .before .before .before .before .before .count .ensures) (l .inv .4) (l .inv .6) (g .ensures)),
+          (join-turn (a .limit) (a .to) (a .first .aside .0) (tableOf (now (a .work))) (entryOf (now (a .counts)) (now (a .rows))) (l .number) (cameFrom ns (a .to) (l .e)) (cameFrom ns (a .to) (l .e + 2)) (getD ns (l .e) 0) (l .so-far .states) (l .so-far .aside .0) (g .result .states) (g .result .aside .0) (c .before .before .before .before .before .count .result) (l .work) (g .last .0)
+          (into-here ns (a .to) (l .e) (here .0) (here .1)) (low .0) (c .before .before .before .before .before .count .ensures) (l .inv .4) (g .ensures .0) _ (l .inv .6)),
+      rw (n .3)
+          (fit-turn (a .limit) (a .to) (a .first .aside .0) (tableOf (now (a .work))) (entryOf (now (a .counts)) (now (a .rows))) (l .number) (cameFrom ns (a .to) (l .e)) (cameFrom ns (a .to) (l .e + 2)) (getD ns (l .e) 0) (l .so-far .states) (l .so-far .aside .0) (g .result .states) (g .result .aside .0) (c .before .before .before .before .before .count .result) (l .work) (g .last .0)
+          (into-here ns (a .to) (l .e) (here .0) (here .1)) (low .0) (c .before .before .before .before .before .count .ensures) (l .inv .4) (g .ensures .0) (l .so-far .fits) (g .result .fits) _ (l .inv .7) (g .ensures .1)),
+      omega (arith, l .inv .8, n .0),
     )
 
 returns : tie.Need-returns Inv-loop μ-loop
-returns c = let a = c .before .before .before .before .before .args in
+returns c = let a = c .before .before .before .before .before .before .before .args in
     let l = c .before .loop in
-    joined (a .limit) (a .to) (a .tally .aside .0) (tableOf (now (a .work))) (cameFrom (now (a .edges)) (a .to) (l .e)) _ _ (l .work) _
-    (into-none (now (a .edges)) (a .to) (l .e) (omega arith)) (l .inv .3) (c .before .before .before .before .before .pre .1) (omega (arith, l .inv .2, c .before .before .before .before .before .pre .0)) (l .inv .4) (l .inv .6)
+    let p = c .before .before .before .before .before .before .before .pre in
+    joined (a .limit) (a .to) (a .first .aside .0) (tableOf (now (a .work))) (behind (l .number) (entryOf (now (a .counts)) (now (a .rows)))) (cameFrom (now (a .edges)) (a .to) (l .e)) _ _ (l .work) _ _ _
+    (into-none (now (a .edges)) (a .to) (l .e) (omega arith)) (l .inv .3) (p .1) (omega (arith, l .inv .2, p .0)) (l .inv .4) (l .inv .6) (l .inv .7)
 
 pub join-others-spec : {M : Type 1} → statement M
 join-others-spec =
@@ -99,6 +114,7 @@ join-others-spec =
     count-requires
     (λ c. search needs)
     join-to-requires
+    add-number
     (λ c. search needs)
     next-edge-requires-2
     loop-less

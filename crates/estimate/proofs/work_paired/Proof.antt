@@ -1,0 +1,76 @@
+-- `work_paired` looks at the form, works every node and looks at whether every pairing was accepted; then the last node's table is handed over.
+use mathlib.Core.Path.{_∙_}
+use native.Mathlib.Omega.{arith}
+use denote.Ref.{now}
+use Rattle.rules.specs.Entries.{entryOf}
+use Rattle.rules.proofs.Refusals.{checked}
+use Rattle.words.specs.Tables.{tableOf}
+use Rattle.estimate.specs.Call.{handed}
+use Rattle.estimate.proofs.Calls.{checked-without, form-of, formed-so, unformed, fit-so, leaves-unfit, leaves-paired, last-table, last-aside, finished-fits}
+use borrow.Author.Tests.{not-true, not-false}
+use borrow.Author.Needs.{needs}
+use Rattle.estimate.proofs.work_paired.Statement.{statement}
+use Rattle.estimate.proofs.work_paired.Tie as tie
+
+returns : tie.Need-returns
+returns c = let a = c .before .before .before .before .before .before .before .before .before .before .before .before .before .before .before .args in
+    leaves-unfit (a .cache) (a .limit) (now (a .tracked)) (now (a .runs)) (now (a .accesses)) (now (a .edges)) (now (a .counts)) (now (a .rows)) (now (a .result)) (now (a .work)) _ (c .before .before .before .before .before .before .before .before .before .before .before .before .before .before .before .pre)
+    (unformed (a .cache) (a .limit) (now (a .tracked)) (now (a .runs)) (now (a .accesses)) (now (a .edges)) (now (a .counts)) (now (a .rows)) (now (a .result)) (now (a .work)) _ (form-of _ (now (a .edges)) (now (a .runs)) _ _ (c .before .before .before .before .before .before .joins-to .ensures) (c .before .before .before .before .before .in-form .ensures)) (not-true _ (c .before .before .before .before .if1 .taken)))
+    (c .before .before .clear .ensures)
+
+work-nodes-requires : tie.Need-work-nodes-requires
+work-nodes-requires c κs = let a = c .before .before .before .before .before .before .before .before .before .before .before .before .args in
+    let ok = checked _ (c .before .before .before .before .before .before .before .before .before .before .before .before .pre) in
+    (omega (arith, ok .working-room), checked-without (a .cache) (a .limit) (now (a .tracked)) (now (a .runs)) (now (a .accesses)) (now (a .edges)) (now (a .result)) (now (a .work)) ok, formed-so _ _ _ _ (c .before .before .in-form .ensures) (not-false _ (c .before .if1 .left)))
+
+returns-2 : tie.Need-returns-2
+returns-2 c = let a = c .before .before .before .before .before .before .before .before .before .before .before .before .before .before .before .before .before .before .before .before .before .args in
+    let g = c .before .before .before .before .before .before .before .before .work-nodes in
+    leaves-unfit (a .cache) (a .limit) (now (a .tracked)) (now (a .runs)) (now (a .accesses)) (now (a .edges)) (now (a .counts)) (now (a .rows)) (now (a .result)) (now (a .work)) _ (c .before .before .before .before .before .before .before .before .before .before .before .before .before .before .before .before .before .before .before .before .before .pre)
+    (fit-so (a .cache) (a .limit) (now (a .tracked)) (now (a .runs)) (now (a .accesses)) (now (a .edges)) (now (a .counts)) (now (a .rows)) (now (a .result)) (now (a .work)) _ _ (form-of _ (now (a .edges)) (now (a .runs)) _ _ (c .before .before .before .before .before .before .before .before .before .before .before .before .joins-to .ensures) (c .before .before .before .before .before .before .before .before .before .before .before .in-form .ensures)) (not-false _ (c .before .before .before .before .before .before .before .before .before .before .if1 .left)) (g .ensures .1) ∙ not-true _ (c .before .before .before .before .if2 .taken))
+    (rw (g .kept .0) at (c .before .before .clear2 .ensures))
+
+sub-hand-over : tie.Need-sub-hand-over
+sub-hand-over c = omega (arith, checked _ (c .before .before .before .before .before .before .before .before .before .before .before .before .before .before .before .before .before .before .before .pre) .some-nodes)
+
+hand-over-requires : tie.Need-hand-over-requires
+hand-over-requires c κs = let a = c .before .before .before .before .before .before .before .before .before .before .before .before .before .before .before .before .before .before .before .args in
+    let ok = checked _ (c .before .before .before .before .before .before .before .before .before .before .before .before .before .before .before .before .before .before .before .pre) in
+    let g = c .before .before .before .before .before .before .work-nodes in
+    let q = entryOf (now (a .counts)) (now (a .rows)) in
+    let table = last-table (a .cache) (a .limit) (now (a .tracked)) (now (a .runs)) (now (a .accesses)) (now (a .edges)) (now (a .result)) (now (a .work)) (g .result .aside .0) (tableOf (g .last .0)) (ok .some-nodes) q (g .ensures .0) in (
+      omega (arith, ok .few-nodes),
+      omega (arith, ok .working-room, g .kept .0),
+      rw table (omega (arith, finished-fits q (handed (a .cache) (a .limit) (now (a .tracked)) (now (a .runs)) (now (a .accesses)) (now (a .edges)) (now (a .result)) (now (a .work))) ok, ok .result-room)),
+    )
+
+returns-3 : tie.Need-returns-3
+returns-3 c = let a = c .before .before .before .before .before .before .before .before .before .before .before .before .before .before .before .before .before .before .before .before .before .before .before .before .before .args in
+    let ok = checked _ (c .before .before .before .before .before .before .before .before .before .before .before .before .before .before .before .before .before .before .before .before .before .before .before .before .before .pre) in
+    let g = c .before .before .before .before .before .before .before .before .before .before .before .before .work-nodes in
+    let h = c .before .before .before .before .before .hand-over .ensures in
+    let q = entryOf (now (a .counts)) (now (a .rows)) in
+    leaves-paired (a .cache) (a .limit) (now (a .tracked)) (now (a .runs)) (now (a .accesses)) (now (a .edges)) (now (a .counts)) (now (a .rows)) (now (a .result)) (now (a .work)) _ _ _ _ _ (c .before .before .before .before .before .before .before .before .before .before .before .before .before .before .before .before .before .before .before .before .before .before .before .before .before .pre)
+    (fit-so (a .cache) (a .limit) (now (a .tracked)) (now (a .runs)) (now (a .accesses)) (now (a .edges)) (now (a .counts)) (now (a .rows)) (now (a .result)) (now (a .work)) _ _ (form-of _ (now (a .edges)) (now (a .runs)) _ _ (c .before .before .before .before .before .before .before .before .before .before .before .before .before .before .before .before .joins-to .ensures) (c .before .before .before .before .before .before .before .before .before .before .before .before .before .before .before .in-form .ensures)) (not-false _ (c .before .before .before .before .before .before .before .before .before .before .before .before .before .before .if1 .left)) (g .ensures .1) ∙ not-false _ (c .before .before .before .before .before .before .before .before .if2 .left))
+    (last-table (a .cache) (a .limit) (now (a .tracked)) (now (a .runs)) (now (a .accesses)) (now (a .edges)) (now (a .result)) (now (a .work)) (g .result .aside .0) (tableOf (g .last .0)) (ok .some-nodes) q (g .ensures .0))
+    (last-aside (a .cache) (a .limit) (now (a .tracked)) (now (a .runs)) (now (a .accesses)) (now (a .edges)) (now (a .result)) (now (a .work)) (g .result .aside .0) (tableOf (g .last .0)) (ok .some-nodes) q (g .ensures .0))
+    (h .0) (h .1 .0) (rw (g .kept .0) at (h .1 .1))
+
+pub work-paired-spec : {M : Type 1} → statement M
+work-paired-spec =
+    tie.close
+    (tie.spec
+    (λ c κs. search needs)
+    (λ c κs. search needs)
+    (λ c κs. search needs)
+    (λ c. search needs)
+    returns
+    work-nodes-requires
+    (λ c κs. search needs)
+    (λ c. search needs)
+    returns-2
+    sub-hand-over
+    hand-over-requires
+    (λ c. search needs)
+    (λ c. search needs)
+    returns-3)

@@ -1,0 +1,4 @@
+-- Joins, counted
+pub mod Joins
+-- Rows, one after the other
+pub mod Rows

@@ -1,0 +1,2 @@
+-- The rows of a pairing
+pub mod Rows
