@@ -2,7 +2,6 @@
 use mathlib.Core.Path.{_≡_, refl, sym, ap, _∙_}
 use mathlib.Core.List.{List}
 use Prim.Native.Nat.{ℕ, _-_, _/_, _≤_, _<_}
-use native.Mathlib.Nat.{le-refl}
 use native.Mathlib.Omega.{arith}
 use lib.ListN.{length, replicate}
 use Rattle.rules.specs.declared.BestState.{BestState}
@@ -13,7 +12,7 @@ use Rattle.rules.specs.declared.Verdict.the-variants.{Accepted, Refused}
 use Rattle.rules.specs.declared.BestOutcome.the-variants.{Finished, Refused as RefusedBest}
 use Rattle.rules.specs.Input.{Input, cache, inputOf, nodes}
 use Rattle.rules.specs.AnyTable.{noPairings, finishedBy as finishedAny}
-use Rattle.rules.specs.Best.{kind, bestTable}
+use Rattle.rules.specs.Best.{kind, bestTable, listing}
 use Rattle.rules.specs.Refusals.{bestVerdict, bestOutcome}
 use Rattle.rules.proofs.Refusals.{Checked, best-accepted}
 use Rattle.rules.proofs.Rooms.{same-worked-any}
@@ -21,38 +20,12 @@ use Rattle.best.specs.Tables.{Worked, tableAt, worked, finished}
 use Rattle.best.specs.Rooms.{tableIn, workedIn}
 use Rattle.best.specs.Call.{written, handed, bestAnalysed}
 use Rattle.best.proofs.Laws.{finished-table, node-table}
-use Rattle.best.proofs.Nodes.{tablesIn-at}
+use Rattle.tables.proofs.Nodes.{tablesIn-at}
 
 -- an accepted input is in its ranges
 pub best-checked : (i : Input) → Accepted ≡ bestVerdict i → Checked i
 unfolding bestOutcome
 best-checked i v = best-accepted i (rw (← v) refl) .checked
-
--- ---- what the work needs does not depend on the rooms
-
-module _ (Z N v K : ℕ) (ts ns bs es : List ℕ) (rs ws : List ℕ) where
-  pub checked-without : Checked (handed Z N v K ts ns bs es rs ws) → Checked (inputOf (cache Z N v cold) K ts ns bs es)
-  checked-without ok =
-      record {
-        some-ways = ok .some-ways;
-        few-ways = ok .few-ways;
-        known-sets = ok .known-sets;
-        some-sets = ok .some-sets;
-        few-sets = ok .few-sets;
-        low-revision = ok .low-revision;
-        high-revision = ok .high-revision;
-        some-states = ok .some-states;
-        few-states = ok .few-states;
-        few-tracked = ok .few-tracked;
-        distinct = ok .distinct;
-        few-accesses = ok .few-accesses;
-        some-nodes = ok .some-nodes;
-        few-nodes = ok .few-nodes;
-        all-accesses = ok .all-accesses;
-        edges-kept = ok .edges-kept;
-        result-room = le-refl K;
-        working-room = le-refl 5184;
-      }
 
 -- ---- the answer
 
@@ -74,7 +47,7 @@ module _ (Z N v K : ℕ) (ts ns bs es rs ws : List ℕ) (T : List BestState) (so
   pub last-table : tableIn (length ns - 1) T ≡ finished (handed Z N v K ts ns bs es rs ws) .table
   unfolding finishedAny
   last-table =
-      sym (tablesIn-at (length ns) T (length ns - 1) (omega arith))
+      sym (tablesIn-at listing (length ns) T (length ns - 1) (omega arith))
       ∙ ap (λ (d : Worked). tableAt d (length ns - 1)) (done ∙ same-worked-any (cache Z N v cold) K ts ns bs es (length rs / 5) (length ws / 5) kind refl noPairings (length ns))
 
 -- which the result room has room for

@@ -1,176 +1,32 @@
--- Folding a table: how a search finds the best state place by place, first the state of fewest units and then its partner among the
--- others; how the states move down where one is taken out; that taking out the two and putting in what they become is a fold; and that
--- one fold after the other comes to the state limit. Tables are the first n states of a list.
+-- Folding a table: how the search for a state's partner goes from place to place among the others, by `Nearness`, and that taking out the two and putting in what they become is
+-- a fold. What is the same for every kind of table is in tables/proofs/Folding. Tables are the first n states of a list.
 use mathlib.Core.Path.{_≡_, refl, sym, ap, ap₂, _∙_}
 use mathlib.Core.Bool.{Bool, true, false, cond}
 use mathlib.Core.List.{List, [], _∷_}
-use Prim.Native.Nat.{ℕ, zero, suc, _+_, _-_, _≤_, _<_}
-use native.Mathlib.Nat.{le-of-suc-le-suc, le-refl, le-antisymm}
-use native.Mathlib.Numerals.{add-one}
+use Prim.Native.Nat.{ℕ, suc, _+_, _-_, _≤_, _<_}
+use native.Mathlib.Nat.{le-antisymm}
 use native.Mathlib.Omega.{arith}
-use lib.Dec.{eqb, ltb, leb}
-use lib.ListN.{length, set, take, drop}
-use lib.Seq.{take-nil, take-suc, drop-cons, getD-take, getD-drop, length-take-le, take-suc-set, drop-set-lt, drop-drop, drop-length}
-use borrow.Author.Tests.{lt-ltb, le-ltb, eq-eqb, ne-eqb, ltb-true, ltb-false, le-leb, lt-leb, leb-false}
+use lib.Dec.{ltb}
+use lib.ListN.{length, take}
+use lib.Seq.{getD-take, length-take-le}
+use borrow.Author.Tests.{lt-ltb, le-ltb, eq-eqb, ne-eqb}
 use Rattle.rules.specs.declared.BestState.{BestState}
 use Rattle.rules.specs.declared.Pair.{Pair}
 use Rattle.rules.specs.declared.Units.{Units}
 use Rattle.rules.specs.Units.{more, addOf}
-use Rattle.rules.specs.Ordered.{remove, best, bestFrom}
-use Rattle.rules.specs.AnyTable.{choice as choiceAny, fold as foldAny, foldAt as foldAtAny, folded as foldedAny}
-use Rattle.best.specs.Tables.{unitsOf, order, noState, stateAt, rising, add, Work, workOf}
-use Rattle.best.specs.Tables.{fewer, closer, choice, meet, fold, foldsOf, folded}
+use Rattle.rules.specs.Ordered.{remove, best}
+use Rattle.rules.specs.AnyTable.{choice as choiceAny, fold as foldAny, foldAt as foldAtAny}
+use Rattle.best.specs.Tables.{order, noState, stateAt, rising, add, workOf, fewer, closer, choice, meet, fold}
 use Rattle.best.specs.declared.fold.Nearness.{Nearness}
 use Rattle.best.specs.Choosing.{nearnessOf, nearer}
-use Rattle.rules.proofs.Lists.{length-remove, best-lt}
+use Rattle.rules.proofs.Lists.{length-remove}
 use Rattle.rules.proofs.Ordered.{in-order-remove}
-use Rattle.best.proofs.Laws.{rising-is, rising-so}
-use Rattle.best.proofs.Laws.{firstOf, secondOf, othersOf, meetOf, rising-fold, fold-shorter}
+use Rattle.best.proofs.Laws.{rising-is, rising-so, firstOf, secondOf, othersOf, meetOf}
 use Rattle.best.specs.Placing.{Added}
 use Rattle.best.specs.Rooms.{Stands}
-
--- ---- the search for the best, over any list of states
-
-module _ (better : BestState → BestState → Bool) (R : List BestState) where
-  -- the search has come to place j, and the best so far stands at place k
-  abbrev pub Searched : ℕ → ℕ → Type 0
-  Searched k j = best better R ≡ bestFrom better (stateAt R k) k j (drop j R)
-
-  -- the clause for one more state, as an equation to rewrite by
-  best-cons : (s : BestState) (k j : ℕ) (t : BestState) (S : List BestState)
-      → bestFrom better s k j (t ∷ S) ≡ bestFrom better (cond (better t s) t s) (cond (better t s) j k) (suc j) S
-  best-cons s k j t S = refl
-
-  -- the state at place j takes over where it is better
-  search-turn : (k j : ℕ) (b : Bool) → j < length R → better (stateAt R j) (stateAt R k) ≡ b → Searched k j
-      → Searched (cond b j k) (j + 1)
-  search-turn k j true l e h = h ∙ rw (drop-cons R j noState l, best-cons, e, add-one j)
-  search-turn k j false l e h = h ∙ rw (drop-cons R j noState l, best-cons, e, add-one j)
-
-search-start : (better : BestState → BestState → Bool) (R : List BestState) → 0 < length R → Searched better R 0 1
-unfolding best
-search-start better [] l = absurd (omega arith)
-search-start better (t ∷ R) l = refl
-
-search-end : (better : BestState → BestState → Bool) (R : List BestState) (k j : ℕ) → j ≡ length R → Searched better R k j → best better R ≡ k
-search-end better R k j e h = h ∙ rw (e, drop-length R)
-
--- ---- the others than the one at place i
-
--- the places before it stay, those behind it come one place nearer
-others-before : (i j : ℕ) (T : List BestState) → j < i → stateAt (remove i T) j ≡ stateAt T j
-unfolding remove
-others-before i j [] l = refl
-others-before zero j (t ∷ T) l = absurd (omega arith)
-others-before (suc i) zero (t ∷ T) l = refl
-others-before (suc i) (suc j) (t ∷ T) l = others-before i j T (le-of-suc-le-suc l)
-
-others-behind : (i j : ℕ) (T : List BestState) → i ≤ j → stateAt (remove i T) j ≡ stateAt T (suc j)
-unfolding remove
-others-behind i j [] l = refl
-others-behind zero j (t ∷ T) l = refl
-others-behind (suc i) zero (t ∷ T) l = absurd (omega arith)
-others-behind (suc i) (suc j) (t ∷ T) l = others-behind i j T (le-of-suc-le-suc l)
-
-others-at : (i j : ℕ) (T : List BestState) → stateAt (remove i T) j ≡ stateAt T (cond (ltb j i) j (suc j))
-others-at i j T = go (ltb j i) refl
-  where
-    go : (b : Bool) → ltb j i ≡ b → stateAt (remove i T) j ≡ stateAt T (cond b j (suc j))
-    go true e = others-before i j T (ltb-true j i e)
-    go false e = others-behind i j T (ltb-false j i e)
-
--- with another behind it, that is a place of the table
-pub other-within : (i j p n : ℕ) → p ≡ cond (ltb j i) j (suc j) → suc j < n → p < n
-other-within i j p n e l = rw e (go (ltb j i))
-  where
-    go : (b : Bool) → cond b j (suc j) < n
-    go true = omega arith
-    go false = l
-
--- ---- taking out: the states behind the place move down by one place
-
--- before the place nothing moves
-take-before : (i : ℕ) (T : List BestState) → take i T ≡ take i (remove i T)
-unfolding remove
-take-before i [] = refl
-take-before zero (t ∷ T) = refl
-take-before (suc i) (t ∷ T) = ap (t ∷_) (take-before i T)
-
--- the first n of the others are the others of the first n + 1
-take-remove : (i n : ℕ) (T : List BestState) → i ≤ n → take n (remove i T) ≡ remove i (take (suc n) T)
-unfolding remove
-take-remove i n [] l = take-nil n
-take-remove zero n (t ∷ T) l = refl
-take-remove (suc i) zero (t ∷ T) l = absurd (omega arith)
-take-remove (suc i) (suc n) (t ∷ T) l = ap (t ∷_) (take-remove i n T (le-of-suc-le-suc l))
-
--- up to place j the table t is without the state at place i, and behind place j it is as it was
-pub record Closing (i j : ℕ) (t w : List BestState) : Type 0 where
-  pub front : take j w ≡ take j (remove i t)
-  pub back : drop (suc j) w ≡ drop (suc j) t
-
-module _ (i : ℕ) (t : List BestState) where
-  pub closing-none : Closing i i t t
-  closing-none = record { front = take-before i t; back = refl }
-
-  -- the state x behind place j moves down
-  pub closing-turn : (j : ℕ) (w w′ : List BestState) (x : BestState) → i ≤ j → suc j < length t → j < length w
-      → Closing i j t w → x ≡ stateAt w (j + 1) → w′ ≡ set w j x → Closing i (j + 1) t w′
-  closing-turn j w w′ x a l k h p q =
-      rw (add-one j)
-      record {
-        front = ap (take (suc j)) q ∙ take-suc-set w j x k ∙ rw (h .front, is) (sym (take-suc (remove i t) j noState long));
-        back =
-            ap (drop (suc (suc j))) q ∙ drop-set-lt (suc (suc j)) w j x (omega arith)
-            ∙ one-further w ∙ ap (drop 1) (h .back) ∙ sym (one-further t);
-      }
-    where
-      one-further : (u : List BestState) → drop (suc (suc j)) u ≡ drop 1 (drop (suc j) u)
-      one-further u = let e : suc j + 1 ≡ suc (suc j) = omega arith in sym (drop-drop 1 (suc j) u ∙ rw e)
-
-      behind : (u : List BestState) → stateAt u (j + 1) ≡ stateAt (drop (suc j) u) 0
-      behind u = let e : suc j + 0 ≡ j + 1 = omega arith in sym (getD-drop (suc j) u 0 noState ∙ rw e)
-
-      is : x ≡ stateAt (remove i t) j
-      is = p ∙ behind w ∙ ap (λ (u : List BestState). stateAt u 0) (h .back) ∙ sym (behind t) ∙ rw (add-one j) (sym (others-behind i j t a))
-
-      long : j < length (remove i t)
-      long = omega (arith, length-remove i t (omega arith))
-
-  pub closing-end : (j n : ℕ) (w : List BestState) → i < n → j + 1 ≡ n → Closing i j t w → take (n - 1) w ≡ remove i (take n t)
-  closing-end j n w l e h =
-      let last : n - 1 ≡ j = omega arith in
-      let all : n ≡ suc j = omega arith in
-      rw (last, all) (h .front ∙ take-remove i j t (omega arith))
-
--- ---- the state of fewest units among the first n
-
--- the search has come to place i; the fewest so far are u units, at place k
-pub record Fewest (R : List BestState) (k u i : ℕ) : Type 0 where
-  pub search : Searched fewer R k i
-  pub units : u ≡ unitsOf (stateAt R k)
-
-module _ (T : List BestState) (n : ℕ) (room : n ≤ length T) where
-  -- a state of the list at a place below n stands in the table
-  here : (i : ℕ) (s : BestState) → i < n → s ≡ stateAt T i → s ≡ stateAt (take n T) i
-  here i s l e = e ∙ sym (getD-take n T i noState l)
-
-  pub fewest-start : (s : BestState) → 0 < n → s ≡ stateAt T 0 → Fewest (take n T) 0 (unitsOf s) 1
-  fewest-start s l e =
-      record { search = search-start fewer (take n T) (omega (arith, length-take-le n T room)); units = ap unitsOf (here 0 s l e) }
-
-  module _ (k u i : ℕ) (s : BestState) (l : i < n) (e : s ≡ stateAt T i) (h : Fewest (take n T) k u i) where
-    fewest-turn : (b : Bool) → ltb (unitsOf s) u ≡ b → Searched fewer (take n T) (cond b i k) (i + 1)
-    fewest-turn b q = search-turn fewer (take n T) k i b (omega (arith, length-take-le n T room)) (rw (← here i s l e, ← h .units) q) (h .search)
-
-    pub fewest-less : unitsOf s < u → Fewest (take n T) i (unitsOf s) (i + 1)
-    fewest-less q = record { search = fewest-turn true (lt-ltb _ _ q); units = ap unitsOf (here i s l e) }
-
-    pub fewest-more : u ≤ unitsOf s → Fewest (take n T) k u (i + 1)
-    fewest-more q = record { search = fewest-turn false (le-ltb _ _ q); units = h .units }
-
-  pub fewest-end : (k u i : ℕ) → i ≡ n → Fewest (take n T) k u i → best fewer (take n T) ≡ k
-  fewest-end k u i e h = search-end fewer (take n T) k i (e ∙ sym (length-take-le n T room)) (h .search)
+use Rattle.tables.proofs.Folding.{other-within, Searched, search-turn, search-start, search-end, fewest-within, partner-within}
+use Rattle.rules.specs.Best.{listing, kind}
+use Rattle.rules.proofs.Partners.{others-at}
 
 -- ---- its partner among the others
 
@@ -206,7 +62,7 @@ module _ (a b : Nearness) where
 
 -- the search for the partner of s has come to place j of the states R; the best so far, at place k, is so near
 pub record Nearest (s : BestState) (R : List BestState) (k : ℕ) (near : Nearness) (j : ℕ) : Type 0 where
-  pub search : Searched (closer s) R k j
+  pub search : Searched listing (closer s) R k j
   pub near-is : near ≡ nearnessOf s (stateAt R k)
 
 -- R are the others than the one at place i
@@ -220,12 +76,12 @@ module _ (T : List BestState) (n : ℕ) (room : n ≤ length T) (i : ℕ) (among
   -- t is the state at place j of the others, which stands at place p of the table
   module _ (j p : ℕ) (t : BestState) (l : suc j < n) (e : p ≡ cond (ltb j i) j (suc j)) (d : t ≡ stateAt T p) where
     other : t ≡ stateAt R j
-    other = d ∙ sym (others-at i j (take n T) ∙ rw (← e) (getD-take n T p noState (other-within i j p n e l)))
+    other = d ∙ sym (others-at noState i j (take n T) ∙ rw (← e) (getD-take n T p noState (other-within i j p n e l)))
 
     -- b says whether it is better than the best so far; t is so near as y says
     module _ (k : ℕ) (near y : Nearness) (b : Bool) (is : y ≡ nearnessOf s t) (q : b ≡ nearer y near) (h : Nearest s R k near j) where
-      partner-turn : (d : Bool) → b ≡ d → Searched (closer s) R (cond d j k) (j + 1)
-      partner-turn d c = search-turn (closer s) R k j d (omega (arith, long)) (rw (← other) (sym (ap₂ nearer is (h .near-is)) ∙ sym q ∙ c)) (h .search)
+      partner-turn : (d : Bool) → b ≡ d → Searched listing (closer s) R (cond d j k) (j + 1)
+      partner-turn d c = search-turn listing (closer s) R k j d (omega (arith, long)) (rw (← other) (sym (ap₂ nearer is (h .near-is)) ∙ sym q ∙ c)) (h .search)
 
       pub partner-closer : b ≡ true → Nearest s R j y (j + 1)
       partner-closer c = record { search = partner-turn true c; near-is = is ∙ ap (nearnessOf s) other }
@@ -235,30 +91,14 @@ module _ (T : List BestState) (n : ℕ) (room : n ≤ length T) (i : ℕ) (among
 
   pub partner-start : (p : ℕ) (t : BestState) (y : Nearness) → 1 < n → p ≡ cond (ltb 0 i) 0 1 → t ≡ stateAt T p → y ≡ nearnessOf s t → Nearest s R 0 y 1
   partner-start p t y l e d is =
-      record { search = search-start (closer s) R (omega (arith, long)); near-is = is ∙ ap (nearnessOf s) (other 0 p t l e d) }
+      record { search = search-start listing (closer s) R (omega (arith, long)); near-is = is ∙ ap (nearnessOf s) (other 0 p t l e d) }
 
   -- the two searches have found document 01's choice
   pub choice-found : (k : ℕ) (near : Nearness) (j : ℕ) → s ≡ stateAt T i → best fewer (take n T) ≡ i → j + 1 ≡ n → Nearest s R k near j
       → record { fewest = i; partner = k } ≡ choice (take n T)
   unfolding choiceAny
   choice-found k near j d b e h =
-      rw (b, getD-take n T i noState among, ← d, search-end (closer s) R k j (omega (arith, long)) (h .search))
-
--- ---- the two places that are chosen
-
-module _ (X : List BestState) (n : ℕ) (long : length X ≡ n) (some : 2 ≤ n) (p : Pair) (chosen : p ≡ choice X) where
-  pub fewest-within : p .fewest < n
-  unfolding choiceAny
-  fewest-within = rw chosen (omega (arith, best-lt fewer X (omega arith)))
-
-  one-left : suc (length (remove (p .fewest) X)) ≡ n
-  one-left = length-remove (p .fewest) X (omega (arith, fewest-within)) ∙ long
-
-  pub partner-within : p .partner < n - 1
-  unfolding choiceAny
-  partner-within =
-      let found : p .partner ≡ best (closer (stateAt X (p .fewest))) (remove (p .fewest) X) = rw chosen refl in
-      rw found (omega (arith, one-left, best-lt (closer (stateAt X (p .fewest))) (remove (p .fewest) X) (omega (arith, one-left))))
+      rw (b, getD-take n T i noState among, ← d, search-end listing (closer s) R k j (omega (arith, long)) (h .search))
 
 -- ---- one fold of the first n states: one state taken out, then the other, and the two together put in
 
@@ -282,7 +122,7 @@ module _ (T : List BestState) (n : ℕ) (room : n ≤ length T) (some : 2 ≤ n)
       first-there = is-first ∙ sym (getD-take n T (p .fewest) noState within)
         where
           within : p .fewest < n
-          within = fewest-within (take n T) n (length-take-le n T room) some p chosen
+          within = fewest-within kind (take n T) n (length-take-le n T room) some p chosen
 
       second-there : t ≡ secondOf p (take n T)
       second-there =
@@ -291,7 +131,7 @@ module _ (T : List BestState) (n : ℕ) (room : n ≤ length T) (some : 2 ≤ n)
           ∙ ap (λ (X : List BestState). stateAt X (p .partner)) first
         where
           within : p .partner < n - 1
-          within = partner-within (take n T) n (length-take-le n T room) some p chosen
+          within = partner-within kind (take n T) n (length-take-le n T room) some p chosen
 
       meet-there : m ≡ meetOf p (take n T)
       unfolding addOf
@@ -303,70 +143,3 @@ module _ (T : List BestState) (n : ℕ) (room : n ≤ length T) (some : 2 ≤ n)
         where
           table : add (m ∷ []) (take (n - 2) T₂) ≡ fold (workOf (take n T)) .table
           table = rw (meet-there, left, chosen)
-
--- ---- folds one after the other
-
-module _ (K : ℕ) (some : 1 ≤ K) where
-  -- more folds than states change nothing
-  folds-enough : (m n : ℕ) (w : Work) → length (w .table) ≤ m → length (w .table) ≤ n
-      → foldsOf m (leb (length (w .table)) K) K w ≡ foldsOf n (leb (length (w .table)) K) K w
-  folds-enough zero zero w k l = refl
-  folds-enough zero (suc n) w k l = rw (le-leb (length (w .table)) K (omega arith))
-  folds-enough (suc m) zero w k l = rw (le-leb (length (w .table)) K (omega arith))
-  folds-enough (suc m) (suc n) w k l = go (leb (length (w .table)) K) refl (folds-enough m n (fold w))
-    where
-      go : (b : Bool) → leb (length (w .table)) K ≡ b
-          → (length (fold w .table) ≤ m → length (fold w .table) ≤ n
-          → foldsOf m (leb (length (fold w .table)) K) K (fold w) ≡ foldsOf n (leb (length (fold w .table)) K) K (fold w))
-          → foldsOf (suc m) b K w ≡ foldsOf (suc n) b K w
-      go true e ih = refl
-      go false e ih =
-          let many = leb-false (length (w .table)) K e in
-          let shorter = fold-shorter w (omega arith) in
-          ih (omega arith) (omega arith)
-
-  -- with more than K states, one fold and then the rest
-  folded-on : (w : Work) → K < length (w .table) → folded K w ≡ folded K (fold w)
-  unfolding foldedAny
-  folded-on w l = go (length (w .table)) refl
-    where
-      go : (n : ℕ) → length (w .table) ≡ n → foldsOf n (leb n K) K w ≡ folded K (fold w)
-      go zero e = absurd (omega arith)
-      go (suc n) e =
-          rw (lt-leb (suc n) K (omega arith))
-          (folds-enough n (length (fold w .table)) (fold w) (omega (arith, fold-shorter w (omega arith))) (le-refl _))
-
--- with no more than K states nothing is folded
-folded-enough : (K : ℕ) (w : Work) → length (w .table) ≤ K → folded K w ≡ w
-unfolding foldedAny
-folded-enough K w l = go (length (w .table)) (le-leb (length (w .table)) K l)
-  where
-    go : (n : ℕ) → leb n K ≡ true → foldsOf n (leb n K) K w ≡ w
-    go zero e = refl
-    go (suc n) e = rw e
-
-stands-is : (w : Work) (n : ℕ) (T : List BestState) → Stands w n T → workOf (take n T) ≡ w
-stands-is w n T h = rw (h .table, h .aside)
-
--- a turn of the loop that folds: more than K states, n, become r
-module _ (K n r : ℕ) (T T′ : List BestState) (room : n ≤ length T) (some : 1 ≤ K) (many : K < n) (h : Stands (fold (workOf (take n T))) r T′) where
-  pub folding-less : r < n
-  folding-less =
-      omega (arith, h .count, length-take-le n T room, fold-shorter (workOf (take n T)) (omega (arith, length-take-le n T room)))
-
-  pub folding-rises : rising (take n T) ≡ true → rising (take r T′) ≡ true
-  unfolding foldAny
-  folding-rises q =
-      rw (h .table) (rising-is (fold (workOf (take n T)) .table) (rising-fold (choice (take n T)) (workOf (take n T)) (rising-so (take n T) q)))
-
-  pub folding-turn : (w : Work) → folded K w ≡ folded K (workOf (take n T)) → folded K w ≡ folded K (workOf (take r T′))
-  folding-turn w e =
-      e
-      ∙ folded-on K some (workOf (take n T)) (omega (arith, length-take-le n T room))
-      ∙ ap (folded K) (sym (stands-is (fold (workOf (take n T))) r T′ h))
-
--- no more than K are left
-pub folding-end : (K n : ℕ) (T : List BestState) → n ≤ length T → n ≤ K → (w : Work) → folded K w ≡ folded K (workOf (take n T)) → Stands (folded K w) n T
-folding-end K n T room l w e =
-    rw (e, folded-enough K (workOf (take n T)) (omega (arith, length-take-le n T room)))
-    record { count = sym (length-take-le n T room); table = refl; aside = refl }

@@ -1,19 +1,19 @@
 -- The finished table, handed over: the words of a slot's table, carried into a room of zeros, are the table with zeros behind it.
 use mathlib.Core.Path.{_≡_, refl, sym, ap, ap₂, _∙_}
 use mathlib.Core.List.{List, [], _∷_, _++_, append-assoc}
-use Prim.Native.Nat.{ℕ, zero, suc, _+_, _-_, _*_, _≤_, _<_}
+use Prim.Native.Nat.{ℕ, suc, _+_, _-_, _*_, _≤_, _<_}
 use native.Mathlib.Numerals.{add-one}
 use native.Mathlib.Omega.{arith}
-use lib.ListN.{length, take, drop, replicate, length-drop, length-replicate, replicate-append-replicate}
-use lib.Seq.{drop-at, drop-drop, take-suc, length-take-le}
+use lib.ListN.{length, take, drop, replicate, length-drop}
+use lib.Seq.{drop-drop, take-suc, length-take-le}
 use Rattle.rules.specs.declared.BestState.{BestState}
 use Rattle.words.specs.BestTables.{tableOf, wordsOf, stored}
 use Rattle.words.proofs.BestTables.{fits-table, stored-behind, words-append}
 use Rattle.best.specs.Tables.{noState, stateAt}
 use Rattle.best.specs.Rooms.{filled, slotOf, tableIn}
 use Rattle.best.specs.Call.{written}
-use Rattle.best.proofs.Scratch.{stretch-long}
-use Rattle.best.proofs.Nodes.{counted, counted-few}
+use Rattle.rules.specs.Best.{listing}
+use Rattle.tables.proofs.Nodes.{counted, zeros-rest, table-long}
 
 -- the states are carried one after the other; X are those that are, rs the room before
 pub carry-start : (X : List BestState) (rs : List ℕ) → rs ≡ wordsOf (take 0 X) ++ drop (0 * 5) rs
@@ -34,21 +34,10 @@ carry-turn X rs us us′ i s l room p e q =
     further : i * 5 + 5 ≡ (i + 1) * 5
     further = omega arith
 
-zeros-rest : (n k : ℕ) → k ≤ n → drop {A = ℕ} k (replicate n 0) ≡ replicate (n - k) 0
-zeros-rest n k l =
-    ap (drop {A = ℕ} k) (ap (λ (m : ℕ). replicate {A = ℕ} m 0) all ∙ sym (replicate-append-replicate k (n - k) 0))
-    ∙ drop-at {A = ℕ} (replicate k 0) (replicate (n - k) 0) k (length-replicate {A = ℕ} k 0)
-  where
-    all : n ≡ k + (n - k)
-    all = omega arith
-
 -- the table in a slot, handed over
 module _ (last m : ℕ) (ws : List ℕ) (l : last < 64) (long : 25920 ≤ length ws) (count : m ≡ filled (slotOf last (tableOf ws))) where
-  pub table-long : m ≡ length (tableIn last (tableOf ws))
-  table-long = sym (ap length (sym (counted last m (tableOf ws) count)) ∙ stretch-long (last * 64) m (tableOf ws) (omega (arith, counted-few last m (tableOf ws) count, fits-table ws 5184 long)))
-
   pub handed-over : (rs zs us : List ℕ) → m * 5 ≤ length rs → zs ≡ replicate (length rs) 0 → us ≡ wordsOf (take m (drop (last * 64) (tableOf ws))) ++ drop (m * 5) zs
       → us ≡ written (tableIn last (tableOf ws)) (length rs)
   handed-over rs zs us room z q =
-      q ∙ ap₂ (λ (us vs : List ℕ). us ++ vs) (ap wordsOf (counted last m (tableOf ws) count))
-      (ap (λ (W : List ℕ). drop (m * 5) W) z ∙ zeros-rest (length rs) (m * 5) room ∙ ap (λ (k : ℕ). replicate (length rs - k * 5) 0) table-long)
+      q ∙ ap₂ (λ (us vs : List ℕ). us ++ vs) (ap wordsOf (counted listing last m (tableOf ws) count))
+      (ap (λ (W : List ℕ). drop (m * 5) W) z ∙ zeros-rest (length rs) (m * 5) room ∙ ap (λ (k : ℕ). replicate (length rs - k * 5) 0) (table-long listing last m (tableOf ws) count (omega (arith, fits-table ws 5184 long))))

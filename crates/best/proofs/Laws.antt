@@ -1,14 +1,14 @@
 -- The laws of every kind of table (Listings, Pairings, AnyTable, Nodes), for the best case's.
-use mathlib.Core.Path.{_≡_, refl, ap}
+use mathlib.Core.Path.{_≡_, refl}
 use mathlib.Core.Bool.{true}
 use mathlib.Core.List.{List, [], _∷_, _++_, flatMap}
-use Prim.Native.Nat.{ℕ, suc, _+_, _-_, _*_, _≤_, _<_, min}
+use Prim.Native.Nat.{ℕ, suc, _+_, _-_, _*_, _≤_, _<_}
 use native.Mathlib.Omega.{arith}
 use lib.ListN.{length}
 use Rattle.basics.specs.Sums.{sumOver}
 use Rattle.rules.specs.declared.BestState.{BestState}
 use Rattle.rules.specs.declared.Last.{Last}
-use Rattle.rules.specs.declared.Last.the-variants.{Block as block, Unknown as unknown}
+use Rattle.rules.specs.declared.Last.the-variants.{Unknown as unknown}
 use Rattle.rules.specs.declared.Pair.{Pair}
 use Rattle.rules.specs.declared.Target.{Target}
 use Rattle.rules.specs.Contents.{among, size, shared, targetOf}
@@ -21,11 +21,10 @@ use Rattle.rules.proofs.Ordered.{InOrder, in-order-rises, rises-in-order}
 use Rattle.rules.proofs.Sets.{aimed}
 use Rattle.rules.proofs.Nodes.{offset-rises}
 use Rattle.rules.proofs.Refusals.{Checked}
-use Rattle.rules.proofs.Listings.{rising-add as rising-add-any, length-present as length-present-any, length-present-append as length-present-append-any, length-add as length-add-any, length-add-all as length-add-all-any, add-append as add-append-any, length-follow}
-use Rattle.rules.proofs.Pairings.{length-after as length-after-any}
-use Rattle.rules.proofs.AnyTable.{firstOf as firstOfAny, secondOf as secondOfAny, othersOf as othersOfAny, meetOf as meetOfAny, rising-fold as rising-fold-any, fold-shorter as fold-shorter-any, length-folded as length-folded-any, rising-join as rising-join-any, length-join as length-join-any, rising-access as rising-access-any, sound-wider, sound-enter, sound-advance, sound-run, nodeTable as nodeTableOf, table-stays as table-stays-any, finished-table as finished-table-any, sound-so-far, node-sound}
+use Rattle.rules.proofs.Listings.{length-present as length-present-any, length-present-append as length-present-append-any, length-follow}
+use Rattle.rules.proofs.AnyTable.{firstOf as firstOfAny, secondOf as secondOfAny, othersOf as othersOfAny, meetOf as meetOfAny, length-folded as length-folded-any, rising-join as rising-join-any, length-join as length-join-any, rising-access as rising-access-any, sound-wider, sound-enter, sound-advance, sound-run, nodeTable as nodeTableOf, table-stays as table-stays-any, finished-table as finished-table-any, sound-so-far, node-sound}
 use Rattle.rules.proofs.Best.{best-orders, best-lawful, length-after as length-successors, best-access-room, best-keep, best-start, best-follow}
-use Rattle.best.specs.Tables.{order, rising, present, add, begins, Work, Worked, tableAt, access, foldAt, fold, folded, advance, run, leftAfter, unitsOf, join, enter, worked, finished, successors}
+use Rattle.best.specs.Tables.{order, rising, present, begins, Work, Worked, tableAt, access, folded, advance, run, join, enter, worked, finished, successors}
 use Rattle.best.specs.Working.{Table}
 
 -- ---- adding
@@ -39,23 +38,11 @@ rising-is T h = in-order-rises order T h
 pub rising-so : (T : List BestState) → rising T ≡ true → Rising T
 rising-so T h = rises-in-order order (best-orders .onward) T h
 
-pub rising-add : (S T : List BestState) → Rising T → Rising (add S T)
-rising-add S T h = rising-add-any listing best-lawful S T h
-
 pub length-present : (S : List BestState) → length (present S) ≤ length S
 length-present S = length-present-any listing S
 
 pub length-present-append : (S T : List BestState) → length (present (S ++ T)) ≡ length (present S) + length (present T)
 length-present-append S T = length-present-append-any listing S T
-
-pub length-add : (S T : List BestState) → length (add S T) ≤ length (present S) + length T
-length-add S T = length-add-any listing S T
-
-pub length-add-all : (S T : List BestState) → length (add S T) ≤ length S + length T
-length-add-all S T = length-add-all-any listing S T
-
-pub add-append : (S S′ T : List BestState) → add (S ++ S′) T ≡ add S′ (add S T)
-add-append S S′ T = add-append-any listing S S′ T
 
 -- ---- folds
 
@@ -73,20 +60,10 @@ module _ (p : Pair) (T : List BestState) where
   abbrev pub meetOf : BestState
   meetOf = meetOfAny kind p T
 
-pub rising-fold : (p : Pair) (w : Work) → Rising (w .table) → Rising (foldAt p w .table)
-rising-fold p w h = rising-fold-any kind best-lawful p w h
-
-pub fold-shorter : (w : Work) → 1 < length (w .table) → length (fold w .table) < length (w .table)
-fold-shorter w l = fold-shorter-any kind w l
-
 pub length-folded : (K : ℕ) (w : Work) → 0 < K → length (folded K w .table) ≤ K
 length-folded K w h = length-folded-any kind K w h
 
 -- ---- joins
-
-pub length-after : (s t : BestState) (S T : List BestState)
-    → length (leftAfter (min (unitsOf s) (unitsOf t)) s S) + length (leftAfter (min (unitsOf s) (unitsOf t)) t T) ≤ length S + suc (length T)
-length-after s t S T = length-after-any listing s t S T
 
 pub rising-join : (S T : List BestState) → Rising (join S T)
 rising-join S T = rising-join-any kind best-lawful S T

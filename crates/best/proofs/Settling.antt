@@ -1,19 +1,19 @@
--- A table in its place: what the folds leave in the scratch is copied there, and each access starts from what the one before it left.
-use mathlib.Core.Path.{_≡_, refl, sym, ap, _∙_}
+-- A table in its place: an access of it can be worked and fits, and each access starts from what the one before it left. What is the same for every kind of table is in
+-- tables/proofs/Settling.
+use mathlib.Core.Path.{_≡_, refl, sym, _∙_}
 use mathlib.Core.Bool.{true}
 use mathlib.Core.List.{List, [], _∷_}
-use Prim.Native.Nat.{ℕ, suc, _+_, _≤_, _<_}
+use Prim.Native.Nat.{ℕ, suc, _≤_, _<_}
 use native.Mathlib.Omega.{arith}
-use lib.ListN.{length, take, drop, getD, length-drop, drop-of-length-le}
-use lib.Seq.{paste, drop-cons}
+use lib.ListN.{length, take, drop, getD}
 use Rattle.rules.specs.declared.BestState.{BestState}
 use Rattle.rules.specs.declared.Last.the-variants.{Block as block, Unknown as unknown}
 use Rattle.rules.specs.declared.Target.{Target}
 use Rattle.rules.specs.Units.{whole, more}
 use Rattle.rules.specs.Contents.{among, targetOf}
 use Rattle.rules.specs.Refusals.{setCounts}
-use Rattle.rules.specs.AnyTable.{advance as advanceAny, run as runAny, total as totalAny}
-use Rattle.rules.specs.Best.{listing}
+use Rattle.rules.specs.AnyTable.{advance as advanceAny}
+use Rattle.rules.specs.Best.{listing, kind}
 use Rattle.rules.specs.Shape.{Every, Present, Aimed, Listed, BestLoose}
 use Rattle.rules.proofs.Refusals.{counts-some, counts-few}
 use Rattle.rules.proofs.Sets.{aimed}
@@ -21,37 +21,13 @@ use Rattle.rules.proofs.Best.{risk-room}
 use Rattle.words.specs.BestTables.{tableOf}
 use Rattle.words.proofs.BestTables.{fits-table}
 use Rattle.best.specs.Tables.{rising, unitsOf, Work, workOf, access, folded, join, advance, run}
-use Rattle.best.specs.Rooms.{InScratch, Stands, InPlace}
+use Rattle.best.specs.Rooms.{InScratch, InPlace}
 use Rattle.best.specs.Following.{Workable}
 use Rattle.best.specs.Working.{workAt, Table, InRange, Ready}
 use Rattle.best.proofs.Laws.{rising-is, rising-join, length-join, rising-access, access-length, none-aside, run-last, table-advance, table-wider}
-use Rattle.best.proofs.Scratch.{stretch-kept, stretch-long}
-use Rattle.best.proofs.Nodes.{paste-there, paste-take}
-
--- ---- from the scratch to a place
-
--- w stands in the scratch of T₂, whose slots are T's; the copy puts it at place `at`
-pub settled : (w : Work) (at m : ℕ) (T T₂ T₃ : List BestState) → at + 64 ≤ 4096 → m ≤ 64 → 5184 ≤ length T₂ → Stands w m (drop 4096 T₂)
-    → take 4096 T₂ ≡ take 4096 T → T₃ ≡ paste T₂ at (drop 4096 T₂) m → InPlace w at m T T₃
-settled w at m T T₂ T₃ slot few long s e q =
-    record {
-      stands = record { count = s .count; table = ap (λ (U : List BestState). take m (drop at U)) q ∙ paste-there T₂ (drop 4096 T₂) at m (omega arith) (omega (arith, length-drop 4096 T₂)) ∙ s .table; aside = s .aside };
-      before = ap (take at) q ∙ paste-take T₂ (drop 4096 T₂) at m at (omega arith) (omega arith) ∙ stretch-kept 0 at 4096 T T₂ (omega arith) e;
-    }
-
--- w was settled from X in the scratch, and the slots were T's before
-pub settled-from : (K : ℕ) (X X′ : List BestState) (a : ℕ) (at m : ℕ) (T T₂ T₃ : List BestState) → X ≡ X′ → 0 ≡ a → at ≤ 4096 → take 4096 T₂ ≡ take 4096 T
-    → InPlace (folded K (workOf X)) at m T₂ T₃ → InPlace (folded K (record { table = X′; aside = a })) at m T T₃
-settled-from K X X′ a at m T T₂ T₃ p q low e g =
-    record { stands = rw (← p, ← q) (g .stands); before = g .before ∙ stretch-kept 0 at 4096 T T₂ (omega arith) e }
+use Rattle.tables.proofs.Settling.{unit-most, settled-from, stands-there, ran-all, Ran as RanAny, ran-next as ran-next-any}
 
 -- ---- an access of a table at a place
-
--- no state has more units than all have together
-unit-most : (T : List BestState) (n : ℕ) → totalAny listing T ≤ n → Every (λ s. unitsOf s ≤ n) T
-unfolding totalAny
-unit-most [] n h = tt
-unit-most (s ∷ T) n h = (omega arith, unit-most T n (omega arith))
 
 module _ (N Z : ℕ) (ts : List ℕ) (few : N ≤ 16) (x : Target) (aim : Aimed Z ts x) where
   workables : (M : ℕ) (T : List BestState) → M ≤ 4095 → Every (Present listing (BestLoose N Z ts M)) T → Every (λ s. unitsOf s ≤ whole) T → Every (Workable N x) T
@@ -60,7 +36,7 @@ module _ (N Z : ℕ) (ts : List ℕ) (few : N ≤ 16) (x : Target) (aim : Aimed 
       ((omega (arith, h .0 .0 .few), omega (arith, h .0 .0 .few), u .0, risk-room N Z ts few x aim (s .mask) (h .0 .0 .small)), workables M T l (h .1) (u .1))
 
   pub workable : (K M : ℕ) (T : List BestState) → M ≤ 4095 → Table N Z ts K M T → Every (Workable N x) T
-  workable K M T l t = workables M T l (t .shaped) (unit-most T whole (rw (t .full) (omega arith)))
+  workable K M T l t = workables M T l (t .shaped) (unit-most listing T whole (rw (t .full) (omega arith)))
 
   pub placed : length ts ≤ 16 → Listed 16 (x .place)
   placed short i p = omega (arith, short, aim .placed i p)
@@ -84,28 +60,18 @@ joined-fits S T r T₀ T₁ l m g = (omega (arith, g .count, length-join S T), r
 pub advanced : (N K : ℕ) (x y : Target) (X : List BestState) (at r m : ℕ) (T T₁ T₂ : List BestState) → x ≡ y → at ≤ 4096 → InScratch (access N x X) r T T₁
     → InPlace (folded K (workOf (take r (drop 4096 T₁)))) at m T₁ T₂ → InPlace (advance N K y (workOf X)) at m T T₂
 unfolding advanceAny more
-advanced N K x y X at r m T T₁ T₂ p low g h = rw (← p) (settled-from K _ _ _ at m T T₁ T₂ (g .table) (rw (none-aside X) refl) low (g .slots) h)
+advanced N K x y X at r m T T₁ T₂ p low g h = rw (← p) (settled-from kind K _ _ _ _ at m _ T T₁ T₂ (g .table) (rw (none-aside X) refl) low (g .slots) h)
 
 -- ---- accesses one after the other
 
--- as far as access i, from w
+-- as far as access i, from w; the last block changes nothing
 module _ (N Z K : ℕ) (ts bs : List ℕ) where
   abbrev pub Ran : ℕ → Work → Work → Type 0
-  Ran i v w = run N Z K ts unknown (drop i bs) v ≡ run N Z K ts unknown bs w
+  Ran i v w = RanAny kind N Z K ts bs i unknown v unknown w
 
   pub ran-next : (i : ℕ) (v w : Work) (b : ℕ) → i < length bs → b ≡ getD bs i 0 → Ran i v w → Ran (suc i) (advance N K (targetOf Z ts unknown b) v) w
-  unfolding runAny
   ran-next i v w b here e h =
-      sym (run-last N Z K ts (block b) (drop (suc i) bs) (advance N K (targetOf Z ts unknown b) v))
-      ∙ rw e (sym (ap (λ (cs : List ℕ). run N Z K ts unknown cs v) (drop-cons bs i 0 here))) ∙ h
-
-  ran-all : (i : ℕ) (v w : Work) → length bs ≤ i → Ran i v w → v ≡ run N Z K ts unknown bs w
-  unfolding runAny
-  ran-all i v w past h = sym (ap (λ (cs : List ℕ). run N Z K ts unknown cs v) (drop-of-length-le bs {i = i} past)) ∙ h
-
--- the work at a place is what stands there
-pub stands-work : (w : Work) (at n : ℕ) (ws : List ℕ) (T : List BestState) → InPlace w at n T (tableOf ws) → workAt at n ws ≡ w
-stands-work w at n ws T g = rw (g .stands .table, g .stands .aside) refl
+      sym (run-last N Z K ts (block b) (drop (suc i) bs) (advance N K (targetOf Z ts unknown b) v)) ∙ ran-next-any kind N Z K ts bs i unknown v unknown w b here e h
 
 -- a table that can be worked on still can where more hits and misses are allowed, and after an access
 pub ready-wider : (Z N : ℕ) (ts : List ℕ) (K M L at n : ℕ) (ws : List ℕ) → M ≤ L → Ready Z N ts K M at n ws → Ready Z N ts K L at n ws
@@ -140,8 +106,5 @@ ready-next Z N ts K L M at n n′ b ws ws′ l e r g =
 pub ran-stands : (Z N : ℕ) (ts : List ℕ) (K M at n i : ℕ) (bs ws : List ℕ) (w : Work) (T : List BestState) → length bs ≤ i → Ready Z N ts K M at n ws
     → take at (tableOf ws) ≡ take at T → Ran N Z K ts bs i (workAt at n ws) w → InPlace (run N Z K ts unknown bs w) at n T (tableOf ws)
 ran-stands Z N ts K M at n i bs ws w T past r e h =
-    rw (← ran-all N Z K ts bs i (workAt at n ws) w past h)
-    record {
-      stands = record { count = sym (stretch-long at n (tableOf ws) (omega (arith, r .slot, r .count, fits-table ws 5184 (r .room)))); table = refl; aside = refl };
-      before = e;
-    }
+    rw (← ran-all kind N Z K ts bs i unknown (workAt at n ws) unknown w past h)
+    (stands-there at n 0 _ (tableOf ws) (omega (arith, r .slot, r .count, fits-table ws 5184 (r .room))) e)

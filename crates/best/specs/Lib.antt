@@ -6,8 +6,6 @@ pub mod Placing
 pub mod Rooms
 -- The states that follow
 pub mod Following
--- The edges of a flat list
-pub mod Edges
 -- The partner of a state
 pub mod Choosing
 -- Joining two tables

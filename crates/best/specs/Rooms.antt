@@ -1,61 +1,32 @@
--- The working room, as states: 64 slots of 64 states, a node's table in each, and behind them, from place 4,096 on, the scratch.
-use mathlib.Core.Path.{_≡_}
-use mathlib.Core.Bool.{cond}
-use mathlib.Core.List.{List, [], _∷_, _++_}
-use Prim.Native.Nat.{ℕ, zero, suc, _*_}
-use lib.Dec.{eqb}
-use lib.ListN.{length, take, drop}
+-- The working room, as states: what is said of any kind of state, for this table's, of which nothing is ever set aside.
+use mathlib.Core.List.{List}
+use Prim.Native.Nat.{ℕ}
 use Rattle.rules.specs.declared.BestState.{BestState}
-use Rattle.best.specs.Tables.{unitsOf, Work}
-use Rattle.best.specs.Tables.{Worked}
+use Rattle.rules.specs.Best.{listing}
+pub use Rattle.tables.specs.Rooms.{InScratch, slotOf}
+use Rattle.tables.specs.Rooms.{Stands as StandsAny, InPlace as InPlaceAny, filled as filledAny, tableIn as tableInAny, workedIn as workedInAny, NodeDone as NodeDoneAny}
+use Rattle.best.specs.Tables.{Work, Worked}
 
--- ---- the scratch
-
--- the r states X stand in the scratch, and the slots are as they were
-pub record InScratch (X : List BestState) (r : ℕ) (T T′ : List BestState) : Type 0 where
-  pub count : r ≡ length X
-  pub table : take r (drop 4096 T′) ≡ X
-  pub slots : take 4096 T′ ≡ take 4096 T
-
--- ---- a table at a place
-
--- w in the first n states of T: how many states it has, the states, and nothing is set aside
-pub record Stands (w : Work) (n : ℕ) (T : List BestState) : Type 0 where
-  pub count : n ≡ length (w .table)
-  pub table : take n T ≡ w .table
-  pub aside : 0 ≡ w .aside
+-- w in the first n states of T, with nothing set aside
+abbrev pub Stands : Work → ℕ → List BestState → Type 0
+Stands w n T = StandsAny w n 0 T
 
 -- w at place p, and what is before that place is as it was
-pub record InPlace (w : Work) (p n : ℕ) (T T′ : List BestState) : Type 0 where
-  pub stands : Stands w n (drop p T′)
-  pub before : take p T′ ≡ take p T
-
--- ---- the slots
+abbrev pub InPlace : Work → ℕ → ℕ → List BestState → List BestState → Type 0
+InPlace w p n T T′ = InPlaceAny w p n 0 T T′
 
 -- how many states stand before the first of 0 units
-unfoldable pub filled : List BestState → ℕ
-filled [] = 0
-filled (s ∷ T) = cond (eqb (unitsOf s) 0) 0 (suc (filled T))
-
--- slot j: 64 states
-abbrev pub slotOf : ℕ → List BestState → List BestState
-slotOf j T = take 64 (drop (j * 64) T)
+abbrev pub filled : List BestState → ℕ
+filled T = filledAny listing T
 
 -- the table in slot j: its states before the first of 0 units
-unfoldable pub tableIn : ℕ → List BestState → List BestState
-tableIn j T = take (filled (slotOf j T)) (slotOf j T)
-
--- the tables in the first j slots
-unfoldable pub tablesIn : ℕ → List BestState → List (List BestState)
-tablesIn zero T = []
-tablesIn (suc j) T = tablesIn j T ++ (tableIn j T ∷ [])
+abbrev pub tableIn : ℕ → List BestState → List BestState
+tableIn j T = tableInAny listing j T
 
 -- the nodes before node j
 abbrev pub workedIn : ℕ → List BestState → Worked
-workedIn j T = record { tables = tablesIn j T; aside = 0 }
+workedIn j T = workedInAny listing j 0 T
 
 -- node j is worked to w: its table is in its slot, and the slots before it are as they were
-pub record NodeDone (w : Work) (j : ℕ) (T T′ : List BestState) : Type 0 where
-  pub table : tableIn j T′ ≡ w .table
-  pub aside : 0 ≡ w .aside
-  pub before : take (j * 64) T′ ≡ take (j * 64) T
+abbrev pub NodeDone : Work → ℕ → List BestState → List BestState → Type 0
+NodeDone w j T T′ = NodeDoneAny listing w j 0 T T′

@@ -9,8 +9,7 @@ use Rattle.rules.specs.declared.Target.{Target}
 use Rattle.rules.specs.Input.{Input}
 use Rattle.rules.specs.Units.{whole}
 use Rattle.rules.specs.Ordered.{rises}
-pub use Rattle.rules.specs.AnyTable.{Match}
-use Rattle.rules.specs.AnyTable.{Work as AnyWork, Worked as AnyWorked, plus as plusOf, present as presentOf, add as addOf, at as atOf, access as accessOf, fewer as fewerOf, choice as choiceOf, foldAt as foldAtOf, fold as foldOf, foldsOf as foldsOfAny, folded as foldedOf, advance as advanceOf, run as runOf, matched as matchedOf, paired as pairedOf, less as lessOf, leftAfter as leftAfterOf, placeAfter as placeAfterOf, walk as walkOf, fromFront as fromFrontOf, join as joinOf, tableAt as tableAtOf, joinAll as joinAllOf, enter as enterOf, node as nodeOf, worked as workedOf, finished as finishedOf}
+use Rattle.rules.specs.AnyTable.{Work as AnyWork, Worked as AnyWorked, plus as plusOf, present as presentOf, add as addOf, at as atOf, access as accessOf, fewer as fewerOf, choice as choiceOf, fold as foldOf, folded as foldedOf, advance as advanceOf, run as runOf, join as joinOf, tableAt as tableAtOf, joinAll as joinAllOf, enter as enterOf, worked as workedOf, finished as finishedOf}
 unfoldable pub use Rattle.rules.specs.Best.{order, miss, successors, bestTable}
 pub use Rattle.rules.specs.Best.{unitsOf, missesOf, hitsOf, closer}
 use Rattle.rules.specs.Best.{exactState, openState, having, folds, joins, listing, kind}
@@ -71,17 +70,9 @@ choice T = choiceOf kind T
 abbrev pub meet : BestState → BestState → ℕ → BestState
 meet s t u = having (folds s t) u
 
--- the states at two places replaced by one
-abbrev pub foldAt : Pair → Work → Work
-foldAt p w = foldAtOf kind p w
-
 -- one fold
 abbrev pub fold : Work → Work
 fold w = foldOf kind w
-
--- only while more than K states remain: n folds at most
-abbrev pub foldsOf : ℕ → Bool → ℕ → Work → Work
-foldsOf n enough K w = foldsOfAny kind n enough K w
 
 -- folded until at most K states are left
 abbrev pub folded : ℕ → Work → Work
@@ -102,34 +93,6 @@ run N Z K ts l bs w = runOf kind N Z K ts l bs w
 -- u units of what a unit of s and a unit of t become in a join
 abbrev pub pairOf : BestState → BestState → ℕ → BestState
 pairOf s t u = having (joins s t) u
-
--- what a pair gives
-abbrev pub matched : List BestState → List BestState → Match → BestState
-matched S T p = matchedOf kind S T p
-
--- what a pairing makes of two tables
-abbrev pub paired : List Match → List BestState → List BestState → List BestState
-paired P S T = pairedOf kind P S T
-
--- s with u units less
-abbrev pub less : BestState → ℕ → BestState
-less s u = lessOf listing s u
-
--- what is left of a table whose first state is s when u of its units are used
-abbrev pub leftAfter : ℕ → BestState → List BestState → List BestState
-leftAfter u s S = leftAfterOf listing u s S
-
--- the place of what is then first
-abbrev pub placeAfter : ℕ → BestState → ℕ → ℕ
-placeAfter u s i = placeAfterOf listing u s i
-
--- pair as many units as the smaller remaining amount allows; n steps
-abbrev pub walk : ℕ → ℕ → ℕ → List BestState → List BestState → List Match
-walk n i j S T = walkOf listing n i j S T
-
--- as many steps as there are states are enough
-abbrev pub fromFront : List BestState → List BestState → List Match
-fromFront S T = fromFrontOf listing S T
 
 -- both tables from the front
 abbrev pub join : List BestState → List BestState → List BestState
@@ -152,10 +115,6 @@ joinAll K d ps w = joinAllOf kind K d ps w
 -- what a node starts from, whose predecessors are ps
 abbrev pub enter : ℕ → BestState → Worked → List ℕ → Work
 enter K s d ps = enterOf kind K s d ps
-
--- node j, after the nodes before it
-abbrev pub node : Input → ℕ → Worked → Work
-node i j d = nodeOf kind i j d
 
 -- so many nodes from the first on, worked in order
 abbrev pub worked : Input → ℕ → Worked

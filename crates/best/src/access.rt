@@ -1,9 +1,4 @@
 // One access: the states that follow those of a table.
-use crate::contents::has_block;
-use crate::contents::has_place;
-use crate::contents::size_of;
-use crate::contents::with_block;
-use crate::contents::without_place;
 use crate::memory::load;
 use crate::placing::add;
 use rules::BestState;
@@ -11,6 +6,11 @@ use rules::Hits;
 use rules::Misses;
 use rules::Target;
 use rules::Units;
+use tables::has_block;
+use tables::has_place;
+use tables::size_of;
+use tables::with_block;
+use tables::without_place;
 ghost use mathlib.Core.Path.{_≡_};
 ghost use mathlib.Core.Bool.{true, cond};
 ghost use mathlib.Core.List.{map};
@@ -152,7 +152,7 @@ pub(crate) fn follow(words: &mut [u64], n: usize, s: BestState, x: Target, ways:
 {
     let place = x.place;
     if s.exact {
-        if has_block(s.mask, place) {
+        if has_block(s.mask, false, place) {
             return add(words, n, hit(s));
         }
         return miss(words, n, s, x, ways);

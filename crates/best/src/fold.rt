@@ -1,11 +1,11 @@
 // Folding a table down to the state limit.
-use crate::contents::size_of;
 use crate::memory::load;
 use crate::memory::store;
 use crate::placing::add;
 use crate::states::meet;
 use rules::BestState;
 use rules::Pair;
+use tables::size_of;
 ghost use mathlib.Core.Path.{_≡_};
 ghost use mathlib.Core.Bool.{true, cond};
 ghost use Prim.Native.Nat.{suc, _*_, _-_, _≤_, _<_};

@@ -10,6 +10,7 @@ use rules::Cache;
 use rules::Hits;
 use rules::Misses;
 use rules::Units;
+use tables::next_edge;
 ghost use mathlib.Core.Path.{_≡_};
 ghost use Prim.Native.Nat.{_+_, _-_, _*_, _≤_, _<_};
 ghost use lib.ListN.{length};
@@ -20,23 +21,8 @@ ghost use Rattle.rules.proofs.Refusals.{Checked};
 ghost use Rattle.words.specs.BestTables.{tableOf};
 ghost use Rattle.best.specs.Tables.{begins, run as runOver, enter as enterOf, joinAll, worked};
 ghost use Rattle.best.specs.Rooms.{InPlace, NodeDone, workedIn};
-ghost use Rattle.best.specs.Edges.{cameFrom, AtEdge};
+ghost use Rattle.tables.specs.Edges.{cameFrom};
 ghost use Rattle.best.specs.Working.{workAt, Startable};
-
-// Where the next edge into node `to` stands, from place `start` of the list on; the list's end if there is none.
-pub(crate) fn next_edge(edges: &[u32], to: usize, start: usize) -> usize
-    requires { ⌜ start ≤ length (now edges) ⌝ }
-    ensures { λ r. ⌜ (start ≤ r) × (r ≤ length (now (edges .entry))) × AtEdge (now (edges .entry)) to r × (cameFrom (now (edges .entry)) to r ≡ cameFrom (now (edges .entry)) to start) ⌝ }
-{
-    let mut e: usize = start;
-    while e + 1 < edges.len() {
-        if edges[e + 1] as usize == to {
-            return e;
-        }
-        e += 2;
-    }
-    edges.len()
-}
 
 // The tables of the predecessors, by the edges from place `after` on, joined one at a time to that of node `to`, of `n` states.
 pub(crate) fn join_others(

@@ -6,16 +6,18 @@ use rules::BestState;
 use rules::Hits;
 use rules::Misses;
 use rules::Units;
+use tables::smaller;
 ghost use mathlib.Core.Path.{_≡_};
 ghost use mathlib.Core.Bool.{true};
 ghost use mathlib.Core.List.{[], _∷_};
-ghost use Prim.Native.Nat.{_+_, _*_, _≤_, _<_, min};
+ghost use Prim.Native.Nat.{_+_, _*_, _≤_, _<_};
 ghost use lib.ListN.{length, take, drop};
-ghost use Rattle.best.specs.Tables.{join};
-ghost use Rattle.best.specs.Tables.{unitsOf, rising, add as addOf};
+ghost use Rattle.rules.specs.Best.{listing};
+ghost use Rattle.best.specs.Tables.{unitsOf, rising, add as addOf, join};
 ghost use Rattle.words.specs.BestTables.{tableOf};
 ghost use Rattle.best.specs.Rooms.{InScratch};
-ghost use Rattle.best.specs.Pairing.{frontAt, frontAfter};
+ghost use Rattle.tables.specs.Fronts.{frontAt, frontAfter};
+ghost use Rattle.best.specs.Pairing.{frontOf};
 
 // What is first of a table that is walked: its place, and the state there with the units that are left of it.
 pub(crate) struct Front {
@@ -23,19 +25,10 @@ pub(crate) struct Front {
     pub state: BestState,
 }
 
-pub(crate) fn smaller(a: Units, b: Units) -> Units
-    ensures { λ r. ⌜ r .0 ≡ min (a .0) (b .0) ⌝ }
-{
-    if b.0 < a.0 {
-        return b;
-    }
-    a
-}
-
 // What is first from place `at` on, of the `m` states at place `from`; past them, a state of 0 units.
 pub(crate) fn front_at(words: &[u64], from: usize, m: usize, at: usize) -> Front
     requires { ⌜ (from + m) * 5 ≤ length (now words) ⌝ }
-    ensures { λ r. ⌜ r ≡ frontAt (take m (drop from (tableOf (now (words .entry))))) at ⌝ }
+    ensures { λ r. ⌜ frontOf r ≡ frontAt listing (take m (drop from (tableOf (now (words .entry))))) at ⌝ }
 {
     if at < m {
         return Front {
@@ -58,7 +51,7 @@ pub(crate) fn front_at(words: &[u64], from: usize, m: usize, at: usize) -> Front
 // What is first when `used` units of the first state are used.
 pub(crate) fn after(words: &[u64], from: usize, m: usize, front: Front, used: Units) -> Front
     requires { ⌜ ((from + m) * 5 ≤ length (now words)) × (front .at < m) × (used .0 ≤ unitsOf (front .state)) ⌝ }
-    ensures { λ r. ⌜ r ≡ frontAfter (take m (drop from (tableOf (now (words .entry))))) (used .0) front ⌝ }
+    ensures { λ r. ⌜ frontOf r ≡ frontAfter listing (take m (drop from (tableOf (now (words .entry))))) (used .0) (frontOf front) ⌝ }
 {
     let s = front.state;
     let misses = s.misses;

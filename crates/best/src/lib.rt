@@ -11,7 +11,6 @@ ghost use mathlib.Core.Path.{_≡_};
 ghost use Rattle.best.specs.Call.{bestAnalysed};
 
 mod access;
-mod contents;
 mod finish;
 mod fold;
 mod graph;

@@ -1,9 +1,10 @@
 // Accesses one after the other, and a table joined: each followed by its folds.
 use crate::access::gather;
-use crate::contents::aim;
 use crate::fold::fold_down;
 use crate::join::pair_up;
 use crate::memory::copy;
+use rules::Last;
+use tables::aim;
 ghost use mathlib.Core.Path.{_≡_};
 ghost use mathlib.Core.Bool.{true};
 ghost use Prim.Native.Nat.{_+_, _*_, _-_, _≤_};
@@ -47,7 +48,7 @@ pub(crate) fn advance(
     requires { ⌜ Ready sets ways (now tracked) limit 4095 at n (now work) ⌝ }
     ensures { λ r. ⌜ InPlace (advanceOf ways limit (targetOf sets (now (tracked .entry)) Unknown block) (workAt at n (now (work .entry)))) at r (tableOf (now (work .entry))) (tableOf (now (work .exit))) ⌝ }
 {
-    let x = aim(tracked, sets, block);
+    let x = aim(tracked, sets, Last::Unknown, block);
     let gathered = gather(work, at, n, x, ways as u64);
     settle(work, at, gathered, limit)
 }

@@ -3,7 +3,6 @@ use mathlib.Core.Path.{_≡_, refl, sym, ap, _∙_}
 use mathlib.Core.Bool.{Bool, true, false}
 use mathlib.Core.List.{List, []}
 use Prim.Native.Nat.{ℕ, _-_, _/_, _≤_, _<_}
-use native.Mathlib.Nat.{le-refl}
 use native.Mathlib.Omega.{arith}
 use lib.ListN.{length, replicate}
 use Rattle.rules.specs.declared.Cache.{Cache}
@@ -15,7 +14,7 @@ use Rattle.rules.specs.declared.Verdict.the-variants.{Accepted, Refused}
 use Rattle.rules.specs.declared.Outcome.the-variants.{Finished, Refused as RefusedOutcome}
 use Rattle.rules.specs.Units.{units}
 use Rattle.rules.specs.Input.{Input, inputOf, nodes, edgesOf, joinsTo}
-use Rattle.rules.specs.AnyTable.{Entries, noPairings, finishedBy as finishedAny}
+use Rattle.rules.specs.AnyTable.{Entries, finishedBy as finishedAny}
 use Rattle.rules.specs.Graph.{Worked, tableAt, workedBy, finishedBy, finished, allFit}
 use Rattle.rules.specs.Refusals.{verdict, outcome}
 use Rattle.rules.specs.Entries.{rowsTold, entryOf, inForm, joinsOf, entriesFit, pairedOutcome}
@@ -25,33 +24,8 @@ use Rattle.rules.proofs.Entries.{Formed, formed, paired-refused, paired-judged,
 use Rattle.rules.proofs.Graph.{finished-table, node-table}
 use Rattle.estimate.specs.Rooms.{tableIn, workedIn}
 use Rattle.estimate.specs.Call.{written, handed, analysed, analysedPaired}
-use Rattle.estimate.proofs.Nodes.{tablesIn-at}
-
--- ---- what the work needs does not depend on the rooms
-
-module _ (c : Cache) (K : ℕ) (ts ns bs es : List ℕ) (rs ws : List ℕ) where
-  pub checked-without : Checked (handed c K ts ns bs es rs ws) → Checked (inputOf c K ts ns bs es)
-  checked-without ok =
-      record {
-        some-ways = ok .some-ways;
-        few-ways = ok .few-ways;
-        known-sets = ok .known-sets;
-        some-sets = ok .some-sets;
-        few-sets = ok .few-sets;
-        low-revision = ok .low-revision;
-        high-revision = ok .high-revision;
-        some-states = ok .some-states;
-        few-states = ok .few-states;
-        few-tracked = ok .few-tracked;
-        distinct = ok .distinct;
-        few-accesses = ok .few-accesses;
-        some-nodes = ok .some-nodes;
-        few-nodes = ok .few-nodes;
-        all-accesses = ok .all-accesses;
-        edges-kept = ok .edges-kept;
-        result-room = le-refl K;
-        working-room = le-refl 5184;
-      }
+use Rattle.rules.specs.Table.{listing}
+use Rattle.tables.proofs.Nodes.{tablesIn-at}
 
 -- ---- the answer
 
@@ -73,7 +47,7 @@ module _ (c : Cache) (K : ℕ) (ts ns bs es rs ws : List ℕ) (a : ℕ) (T : Lis
   pub last-table : tableIn (length ns - 1) T ≡ finishedBy q (handed c K ts ns bs es rs ws) .table
   unfolding finishedAny
   last-table =
-      sym (tablesIn-at (length ns) T (length ns - 1) (omega arith))
+      sym (tablesIn-at listing (length ns) T (length ns - 1) (omega arith))
       ∙ ap (λ (d : Worked). tableAt d (length ns - 1)) (done ∙ same-worked c K ts ns bs es (length rs / 5) (length ws / 5) q (length ns))
 
   pub last-aside : a ≡ finishedBy q (handed c K ts ns bs es rs ws) .aside

@@ -1,69 +1,43 @@
--- Folding a table: the least units, and the first state that has them; how a search finds the best partner place by place, and that it may stop at one that none
--- can beat (the other stops are Partnering's); how the
--- states move down where one is taken out; that the two replaced by what they become are a fold; and that one fold after the other comes to the state
--- limit. Tables are the first n states of a list.
+-- Folding a table: the least units, and the first state that has them; what is set aside; how the search for a state's partner goes from place to place among the others, and that it
+-- may stop at one that none can beat (the other stops are Partnering's); and that the two replaced by what they become are a fold. What is the same for every kind of table is in
+-- tables/proofs/Folding. Tables are the first n states of a list.
 use mathlib.Core.Path.{_≡_, refl, sym, ap, _∙_}
 use mathlib.Core.Bool.{Bool, true, false, cond, _&&_, _||_, not, true≢false}
 use mathlib.Core.Logic.{_≢_}
 use mathlib.Core.List.{List, [], _∷_}
 use Prim.Native.Nat.{ℕ, zero, suc, _+_, _-_, _≤_, _<_, min}
-use native.Mathlib.Nat.{le-of-suc-le-suc, le-refl, le-antisymm}
-use native.Mathlib.Numerals.{add-one}
+use native.Mathlib.Nat.{le-refl, le-antisymm}
 use native.Mathlib.Decide.{ℕ-discrete, decLt, decLe}
 use native.Mathlib.Omega.{arith}
 use lib.Dec.{eqb, ltb, leb}
 use lib.ListN.{length, set, take, drop, length-set, length-drop}
-use lib.Seq.{take-nil, take-suc, drop-cons, getD-take, getD-drop, length-take-le, take-suc-set, take-set-lt, drop-set-lt, drop-drop, drop-length}
-use borrow.Author.Tests.{lt-ltb, le-ltb, eq-eqb, ne-eqb, eqb-true, le-leb, lt-leb, leb-true, leb-false, not-true}
+use lib.Seq.{getD-take, getD-drop, length-take-le, take-set-lt}
+use borrow.Author.Tests.{lt-ltb, le-ltb, eq-eqb, ne-eqb, eqb-true, leb-true, not-true}
 use Rattle.basics.proofs.Bools.{and-left, and-right}
 use Rattle.rules.specs.declared.State.{State}
 use Rattle.rules.specs.declared.Pair.{Pair}
 use Rattle.rules.specs.declared.Units.{Units}
 use Rattle.rules.specs.Units.{more, addOf}
-use Rattle.rules.specs.Ordered.{Order, before, same, after, remove, best, bestFrom}
-use Rattle.rules.specs.AnyTable.{choice as choiceAny, fold as foldAny, foldAt as foldAtAny, folded as foldedAny}
-use Rattle.rules.specs.Table.{unitsOf, order, noState, stateAt, rising, add, Work}
-use Rattle.rules.specs.Fold.{fewer, sharing, apart, closer, choice, meet, changed, fold, foldsOf, folded}
-use Rattle.rules.proofs.Lists.{length-remove, best-lt}
+use Rattle.rules.specs.Ordered.{same, remove, best}
+use Rattle.rules.specs.AnyTable.{choice as choiceAny, fold as foldAny, foldAt as foldAtAny}
+use Rattle.rules.specs.Table.{unitsOf, order, noState, stateAt, rising, add, listing}
+use Rattle.rules.specs.Fold.{fewer, sharing, apart, closer, choice, meet, changed, fold, states}
+use Rattle.rules.proofs.Lists.{length-remove}
 use Rattle.rules.proofs.Ordered.{in-order-remove}
 use Rattle.rules.proofs.Table.{rising-is, rising-so}
-use Rattle.rules.proofs.Partners.{stays, first-best, past, past-other, among-past, others-behind, others-at, not-closer}
+use Rattle.rules.proofs.Partners.{stays, first-best, past, past-other, among-past, others-at, not-closer}
 use Rattle.rules.proofs.Replacing.{removed-both, among-within, kept}
-use Rattle.rules.proofs.Fold.{firstOf, secondOf, meetOf, rising-fold, fold-shorter}
+use Rattle.rules.proofs.Fold.{firstOf, secondOf, meetOf}
 use Rattle.estimate.specs.Placing.{isSame, Added}
 use Rattle.estimate.specs.Rooms.{Stands}
 use Rattle.estimate.specs.Partners.{NoneMore, Fewest, Lowest, among, replaced, Replaced}
 use Rattle.estimate.proofs.Insertion.{same-tests}
-
--- ---- the search for the best, over any list of states
-
-module _ (better : State → State → Bool) (R : List State) where
-  -- the search has come to place j, and the best so far stands at place k
-  abbrev pub Searched : ℕ → ℕ → Type 0
-  Searched k j = best better R ≡ bestFrom better (stateAt R k) k j (drop j R)
-
-  -- the clause for one more state, as an equation to rewrite by
-  best-cons : (s : State) (k j : ℕ) (t : State) (S : List State)
-      → bestFrom better s k j (t ∷ S) ≡ bestFrom better (cond (better t s) t s) (cond (better t s) j k) (suc j) S
-  best-cons s k j t S = refl
-
-  -- the state at place j takes over where it is better
-  search-turn : (k j : ℕ) (b : Bool) → j < length R → better (stateAt R j) (stateAt R k) ≡ b → Searched k j
-      → Searched (cond b j k) (j + 1)
-  search-turn k j true l e h = h ∙ rw (drop-cons R j noState l, best-cons, e, add-one j)
-  search-turn k j false l e h = h ∙ rw (drop-cons R j noState l, best-cons, e, add-one j)
-
-search-start : (better : State → State → Bool) (R : List State) → 0 < length R → Searched better R 0 1
-unfolding best
-search-start better [] l = absurd (omega arith)
-search-start better (t ∷ R) l = refl
-
-search-end : (better : State → State → Bool) (R : List State) (k j : ℕ) → j ≡ length R → Searched better R k j → best better R ≡ k
-search-end better R k j e h = h ∙ rw (e, drop-length R)
+use Rattle.tables.proofs.Insertion.{is-same}
+use Rattle.tables.proofs.Folding.{other-within, Searched, search-turn, search-start, search-end, fewest-within, partner-within}
 
 -- none of those that are left is better
 search-stop : (better : State → State → Bool) (R : List State) (k j : ℕ)
-    → ((p : ℕ) → p < length R → better (stateAt R p) (stateAt R k) ≡ false) → Searched better R k j → best better R ≡ k
+    → ((p : ℕ) → p < length R → better (stateAt R p) (stateAt R k) ≡ false) → Searched listing better R k j → best better R ≡ k
 search-stop better R k j none h =
     h ∙ stays better noState (stateAt R k) k j (drop j R) (λ p l. rw (getD-drop j R p noState) (none (j + p) (omega (arith, l, length-drop j R))))
 
@@ -75,72 +49,6 @@ module _ (s m : State) (r : Bool) (same : r ≡ isSame (order s m)) where
 
   pub changed-all : r ≡ false → unitsOf s ≡ changed s m
   changed-all h = rw (sym (same-tests s m) ∙ sym same ∙ h)
-
--- ---- the others than the one at place i
-
--- with another behind it, that is a place of the table
-pub other-within : (i j p n : ℕ) → p ≡ cond (ltb j i) j (suc j) → suc j < n → p < n
-other-within i j p n e l = rw e (go (ltb j i))
-  where
-    go : (b : Bool) → cond b j (suc j) < n
-    go true = omega arith
-    go false = l
-
--- ---- taking out: the states behind the place move down by one place
-
--- before the place nothing moves
-take-before : (i : ℕ) (T : List State) → take i T ≡ take i (remove i T)
-unfolding remove
-take-before i [] = refl
-take-before zero (t ∷ T) = refl
-take-before (suc i) (t ∷ T) = ap (t ∷_) (take-before i T)
-
--- the first n of the others are the others of the first n + 1
-take-remove : (i n : ℕ) (T : List State) → i ≤ n → take n (remove i T) ≡ remove i (take (suc n) T)
-unfolding remove
-take-remove i n [] l = take-nil n
-take-remove zero n (t ∷ T) l = refl
-take-remove (suc i) zero (t ∷ T) l = absurd (omega arith)
-take-remove (suc i) (suc n) (t ∷ T) l = ap (t ∷_) (take-remove i n T (le-of-suc-le-suc l))
-
--- up to place j the table t is without the state at place i, and behind place j it is as it was
-pub record Closing (i j : ℕ) (t w : List State) : Type 0 where
-  pub front : take j w ≡ take j (remove i t)
-  pub back : drop (suc j) w ≡ drop (suc j) t
-
-module _ (i : ℕ) (t : List State) where
-  pub closing-none : Closing i i t t
-  closing-none = record { front = take-before i t; back = refl }
-
-  -- the state x behind place j moves down
-  pub closing-turn : (j : ℕ) (w w′ : List State) (x : State) → i ≤ j → suc j < length t → j < length w
-      → Closing i j t w → x ≡ stateAt w (j + 1) → w′ ≡ set w j x → Closing i (j + 1) t w′
-  closing-turn j w w′ x a l k h p q =
-      rw (add-one j)
-      record {
-        front = ap (take (suc j)) q ∙ take-suc-set w j x k ∙ rw (h .front, is) (sym (take-suc (remove i t) j noState long));
-        back =
-            ap (drop (suc (suc j))) q ∙ drop-set-lt (suc (suc j)) w j x (omega arith)
-            ∙ one-further w ∙ ap (drop 1) (h .back) ∙ sym (one-further t);
-      }
-    where
-      one-further : (u : List State) → drop (suc (suc j)) u ≡ drop 1 (drop (suc j) u)
-      one-further u = let e : suc j + 1 ≡ suc (suc j) = omega arith in sym (drop-drop 1 (suc j) u ∙ rw e)
-
-      behind : (u : List State) → stateAt u (j + 1) ≡ stateAt (drop (suc j) u) 0
-      behind u = let e : suc j + 0 ≡ j + 1 = omega arith in sym (getD-drop (suc j) u 0 noState ∙ rw e)
-
-      is : x ≡ stateAt (remove i t) j
-      is = p ∙ behind w ∙ ap (λ (u : List State). stateAt u 0) (h .back) ∙ sym (behind t) ∙ rw (add-one j) (sym (others-behind noState i j t a))
-
-      long : j < length (remove i t)
-      long = omega (arith, length-remove i t (omega arith))
-
-  pub closing-end : (j n : ℕ) (w : List State) → i < n → j + 1 ≡ n → Closing i j t w → take (n - 1) w ≡ remove i (take n t)
-  closing-end j n w l e h =
-      let last : n - 1 ≡ j = omega arith in
-      let all : n ≡ suc j = omega arith in
-      rw (last, all) (h .front ∙ take-remove i j t (omega arith))
 
 -- ---- the state of fewest units
 
@@ -278,7 +186,7 @@ module _ (most shares away near : ℕ) where
 
 -- the search for the partner of s has come to place j of the states R; the best so far, at place k, shares `most` blocks and is `near` away
 pub record Nearest (s : State) (R : List State) (k most near j : ℕ) : Type 0 where
-  pub search : Searched (closer s) R k j
+  pub search : Searched listing (closer s) R k j
   pub shares : most ≡ sharing s (stateAt R k)
   pub away : near ≡ apart s (stateAt R k)
 
@@ -298,8 +206,8 @@ module _ (T : List State) (n : ℕ) (room : n ≤ length T) (i : ℕ) (among : i
     -- b says whether it is better than the best so far
     module _ (k most near : ℕ) (b : Bool) (q : b ≡ (ltb most (sharing s t) || (eqb most (sharing s t) && ltb (apart s t) near)))
         (h : Nearest s R k most near j) where
-      partner-turn : (d : Bool) → b ≡ d → Searched (closer s) R (cond d j k) (j + 1)
-      partner-turn d c = search-turn (closer s) R k j d (omega (arith, long)) (rw (← other, ← h .shares, ← h .away) (sym q ∙ c)) (h .search)
+      partner-turn : (d : Bool) → b ≡ d → Searched listing (closer s) R (cond d j k) (j + 1)
+      partner-turn d c = search-turn listing (closer s) R k j d (omega (arith, long)) (rw (← other, ← h .shares, ← h .away) (sym q ∙ c)) (h .search)
 
       pub partner-closer : b ≡ true → Nearest s R j (sharing s t) (apart s t) (j + 1)
       partner-closer c = record { search = partner-turn true c; shares = ap (sharing s) other; away = ap (apart s) other }
@@ -310,13 +218,13 @@ module _ (T : List State) (n : ℕ) (room : n ≤ length T) (i : ℕ) (among : i
   pub partner-start : (p : ℕ) (t : State) → 1 < n → p ≡ cond (ltb 0 i) 0 1 → t ≡ stateAt T p → Nearest s R 0 (sharing s t) (apart s t) 1
   partner-start p t l e d =
       record {
-        search = search-start (closer s) R (omega (arith, long));
+        search = search-start listing (closer s) R (omega (arith, long));
         shares = ap (sharing s) (other 0 p t l e d);
         away = ap (apart s) (other 0 p t l e d);
       }
 
   pub partner-end : (k most near j : ℕ) → j + 1 ≡ n → Nearest s R k most near j → k ≡ best (closer s) R
-  partner-end k most near j e h = sym (search-end (closer s) R k j (omega (arith, long)) (h .search))
+  partner-end k most near j e h = sym (search-end listing (closer s) R k j (omega (arith, long)) (h .search))
 
   -- none can beat it
   pub partner-stop : (k most near j bound : ℕ) (r : Bool) → r ≡ (leb bound most && eqb near 0) → r ≡ true → NoneMore s (take n T) i bound
@@ -346,35 +254,14 @@ module _ (T : List State) (n : ℕ) (room : n ≤ length T) (i : ℕ) (among : i
   unfolding choiceAny
   choice-found k d b e = rw (b, getD-take n T i noState among, ← d, e)
 
--- ---- the two places that are chosen
-
-module _ (X : List State) (n : ℕ) (long : length X ≡ n) (some : 2 ≤ n) (p : Pair) (chosen : p ≡ choice X) where
-  pub fewest-within : p .fewest < n
-  unfolding choiceAny
-  fewest-within = rw chosen (omega (arith, best-lt fewer X (omega arith)))
-
-  one-left : suc (length (remove (p .fewest) X)) ≡ n
-  one-left = length-remove (p .fewest) X (omega (arith, fewest-within)) ∙ long
-
-  pub partner-within : p .partner < n - 1
-  unfolding choiceAny
-  partner-within =
-      let found : p .partner ≡ best (closer (stateAt X (p .fewest))) (remove (p .fewest) X) = rw chosen refl in
-      rw found (omega (arith, one-left, best-lt (closer (stateAt X (p .fewest))) (remove (p .fewest) X) (omega (arith, one-left))))
-
 -- ---- what replaces two states of the first n: i and p are their places, and m comes
-
-same-place : (o : Order) → isSame o ≡ true → o ≡ same
-same-place before e = absurd (true≢false (sym e))
-same-place same e = refl
-same-place after e = absurd (true≢false (sym e))
 
 -- r says whether m has units and stands where t stands
 stays-so : (m t : State) (r : Bool) → r ≡ (not (eqb (unitsOf m) 0) && isSame (order m t)) → r ≡ true → (unitsOf m ≢ 0) × (order m t ≡ same)
 stays-so m t r said h =
     let both = sym said ∙ h in (
       λ e. true≢false (sym (eq-eqb (unitsOf m) 0 e) ∙ not-true _ (and-left (not (eqb (unitsOf m) 0)) _ both)),
-      same-place (order m t) (and-right (not (eqb (unitsOf m) 0)) _ both),
+      is-same (order m t) (and-right (not (eqb (unitsOf m) 0)) _ both),
     )
 
 module _ (T : List State) (n : ℕ) (room : n ≤ length T) (i p : ℕ) (l : i < n) (k : p < n) (other : p ≢ i) (m : State) where
@@ -437,12 +324,12 @@ module _ (T : List State) (n : ℕ) (room : n ≤ length T) (i p : ℕ) (l : i <
 module _ (T : List State) (n : ℕ) (room : n ≤ length T) (some : 2 ≤ n) (c : Pair) (chosen : c ≡ choice (take n T)) (q : ℕ)
     (place : q ≡ past (c .fewest) (c .partner)) where
   first-within : c .fewest < n
-  first-within = fewest-within (take n T) n (length-take-le n T room) some c chosen
+  first-within = fewest-within states (take n T) n (length-take-le n T room) some c chosen
 
   pub second-within : q < n
   second-within =
       other-within (c .fewest) (c .partner) q n place
-      (let l = partner-within (take n T) n (length-take-le n T room) some c chosen in omega (arith, l))
+      (let l = partner-within states (take n T) n (length-take-le n T room) some c chosen in omega (arith, l))
 
   pub second-other : q ≢ c .fewest
   second-other = rw place (past-other (c .fewest) (c .partner))
@@ -474,76 +361,3 @@ module _ (T : List State) (n : ℕ) (room : n ≤ length T) (some : 2 ≤ n) (c 
 
         aside : more a (changed s m + changed t m) ≡ fold (record { table = take n T; aside = a }) .aside
         aside = rw (meet-there, second-there, first-there, chosen)
-
--- ---- folds one after the other
-
-module _ (K : ℕ) (some : 1 ≤ K) where
-  -- more folds than states change nothing
-  folds-enough : (m n : ℕ) (w : Work) → length (w .table) ≤ m → length (w .table) ≤ n
-      → foldsOf m (leb (length (w .table)) K) K w ≡ foldsOf n (leb (length (w .table)) K) K w
-  folds-enough zero zero w k l = refl
-  folds-enough zero (suc n) w k l = rw (le-leb (length (w .table)) K (omega arith))
-  folds-enough (suc m) zero w k l = rw (le-leb (length (w .table)) K (omega arith))
-  folds-enough (suc m) (suc n) w k l = go (leb (length (w .table)) K) refl (folds-enough m n (fold w))
-    where
-      go : (b : Bool) → leb (length (w .table)) K ≡ b
-          → (length (fold w .table) ≤ m → length (fold w .table) ≤ n
-          → foldsOf m (leb (length (fold w .table)) K) K (fold w) ≡ foldsOf n (leb (length (fold w .table)) K) K (fold w))
-          → foldsOf (suc m) b K w ≡ foldsOf (suc n) b K w
-      go true e ih = refl
-      go false e ih =
-          let many = leb-false (length (w .table)) K e in
-          let shorter = fold-shorter w (omega arith) in
-          ih (omega arith) (omega arith)
-
-  -- with more than K states, one fold and then the rest
-  folded-on : (w : Work) → K < length (w .table) → folded K w ≡ folded K (fold w)
-  unfolding foldedAny
-  folded-on w l = go (length (w .table)) refl
-    where
-      go : (n : ℕ) → length (w .table) ≡ n → foldsOf n (leb n K) K w ≡ folded K (fold w)
-      go zero e = absurd (omega arith)
-      go (suc n) e =
-          rw (lt-leb (suc n) K (omega arith))
-          (folds-enough n (length (fold w .table)) (fold w) (omega (arith, fold-shorter w (omega arith))) (le-refl _))
-
--- with no more than K states nothing is folded
-folded-enough : (K : ℕ) (w : Work) → length (w .table) ≤ K → folded K w ≡ w
-unfolding foldedAny
-folded-enough K w l = go (length (w .table)) (le-leb (length (w .table)) K l)
-  where
-    go : (n : ℕ) → leb n K ≡ true → foldsOf n (leb n K) K w ≡ w
-    go zero e = refl
-    go (suc n) e = rw e
-
--- the first n states of T, and the set-aside count a
-abbrev pub workOf : ℕ → ℕ → List State → Work
-workOf n a T = record { table = take n T; aside = a }
-
-stands-is : (w : Work) (n a : ℕ) (T : List State) → Stands w n a T → workOf n a T ≡ w
-stands-is w n a T h = rw (h .table, h .aside)
-
--- a turn of the loop that folds: more than K states, n, become r
-module _ (K n r a b : ℕ) (T T′ : List State) (room : n ≤ length T) (some : 1 ≤ K) (many : K < n)
-    (h : Stands (fold (workOf n a T)) r b T′) where
-  pub folding-less : r < n
-  folding-less =
-      omega (arith, h .count, length-take-le n T room, fold-shorter (workOf n a T) (omega (arith, length-take-le n T room)))
-
-  pub folding-rises : rising (take n T) ≡ true → rising (take r T′) ≡ true
-  unfolding foldAny
-  folding-rises q =
-      rw (h .table) (rising-is (fold (workOf n a T) .table) (rising-fold (choice (take n T)) (workOf n a T) (rising-so (take n T) q)))
-
-  pub folding-turn : (w : Work) → folded K w ≡ folded K (workOf n a T) → folded K w ≡ folded K (workOf r b T′)
-  folding-turn w e =
-      e
-      ∙ folded-on K some (workOf n a T) (omega (arith, length-take-le n T room))
-      ∙ ap (folded K) (sym (stands-is (fold (workOf n a T)) r b T′ h))
-
--- no more than K are left
-pub folding-end : (K n a : ℕ) (T : List State) → n ≤ length T → n ≤ K → (w : Work) → folded K w ≡ folded K (workOf n a T)
-    → Stands (folded K w) n a T
-folding-end K n a T room l w e =
-    rw (e, folded-enough K (workOf n a T) (omega (arith, length-take-le n T room)))
-    record { count = sym (length-take-le n T room); table = refl; aside = refl }

@@ -3,11 +3,11 @@
 use mathlib.Core.Path.{_≡_, refl, sym, ap, ap₂, _∙_, subst}
 use mathlib.Core.Bool.{Bool, true, false, cond, _&&_}
 use mathlib.Core.List.{List, [], _∷_, _++_, map}
-use Prim.Native.Nat.{ℕ, zero, suc, _+_, _-_, _*_, _/_, _≤_, _<_}
+use Prim.Native.Nat.{ℕ, zero, suc, _+_, _-_, _*_, _≤_, _<_}
 use native.Mathlib.Omega.{arith}
 use lib.Dec.{eqb, ltb}
 use lib.ListN.{length, getD, take, drop, length-take, length-map, List·getD-eq-default}
-use lib.Seq.{take-suc, drop-cons}
+use lib.Seq.{take-suc}
 use borrow.Author.Tests.{ne-eqb, eqb-false, ltb-true, ltb-false}
 use Rattle.basics.proofs.Bools.{and-left, and-right}
 use Rattle.rules.specs.declared.State.{State}
@@ -26,8 +26,8 @@ use Rattle.pairings.proofs.Rows.{rows-next, rows-end}
 use Rattle.words.specs.Tables.{tableOf}
 use Rattle.words.proofs.Tables.{fits-table, table-take, table-drop}
 use Rattle.estimate.specs.Rooms.{InScratch}
-use Rattle.estimate.proofs.Scratch.{stretch-long, scratch-empty, scratch-more, slot-reads}
-use Rattle.estimate.proofs.Pairing.{statesAt}
+use Rattle.tables.proofs.Scratch.{stretch-long, slot-reads}
+use Rattle.tables.proofs.Pairing.{statesAt}
 
 -- ---- one pair, added
 
@@ -47,8 +47,8 @@ pub record Rowing (left m right k : ℕ) (rs ws vs : List ℕ) (n r : ℕ) : Typ
   pub slots : take 4096 (tableOf vs) ≡ take 4096 (tableOf ws)
   pub count : n ≡ length (take n (drop 4096 (tableOf vs)))
   pub rises : rising (take n (drop 4096 (tableOf vs))) ≡ true
-  pub whole : add (map (matched (statesAt left m ws) (statesAt right k ws)) (rowsOf (drop r rs))) (take n (drop 4096 (tableOf vs)))
-      ≡ paired (rowsOf rs) (statesAt left m ws) (statesAt right k ws)
+  pub whole : add (map (matched (statesAt tableOf left m ws) (statesAt tableOf right k ws)) (rowsOf (drop r rs))) (take n (drop 4096 (tableOf vs)))
+      ≡ paired (rowsOf rs) (statesAt tableOf left m ws) (statesAt tableOf right k ws)
 
 pub rowing-none : (left m right k : ℕ) (rs ws : List ℕ) → placesExist m k (rowsOf rs) ≡ true → Rowing left m right k rs ws ws 0 0
 unfolding pairedAny
@@ -57,10 +57,10 @@ rowing-none left m right k rs ws e =
 
 module _ {left m right k : ℕ} {rs ws vs : List ℕ} {n r : ℕ} (g : Rowing left m right k rs ws vs n r) (a : left + m ≤ 4096) (b : right + k ≤ 4096) where
   abbrev S : List State
-  S = statesAt left m ws
+  S = statesAt tableOf left m ws
 
   abbrev T : List State
-  T = statesAt right k ws
+  T = statesAt tableOf right k ws
 
   abbrev X : List State
   X = take n (drop 4096 (tableOf vs))
@@ -88,8 +88,8 @@ module _ {left m right k : ℕ} {rs ws vs : List ℕ} {n r : ℕ} (g : Rowing le
       is-matched : meet (stateAt (tableOf vs) (left + getD rs r 0)) (stateAt (tableOf vs) (right + getD rs (r + 1) 0)) (getD rs (r + 2) 0) ≡ matched S T (rowAt rs r)
       is-matched =
           ap₂ (λ (s t : State). meet s t (getD rs (r + 2) 0))
-          (slot-reads X n (tableOf ws) (tableOf vs) there left m (getD rs r 0) _ (places .0) a refl)
-          (slot-reads X n (tableOf ws) (tableOf vs) there right k (getD rs (r + 1) 0) _ (places .1) b refl)
+          (slot-reads listing X n (tableOf ws) (tableOf vs) there left m (getD rs r 0) _ (places .0) a refl)
+          (slot-reads listing X n (tableOf ws) (tableOf vs) there right k (getD rs (r + 1) 0) _ (places .1) b refl)
         where
           there : InScratch X n (tableOf ws) (tableOf vs)
           there = record { count = g .count; table = refl; slots = g .slots }
@@ -127,14 +127,14 @@ module _ {left m right k : ℕ} {rs ws vs : List ℕ} {n r : ℕ} (g : Rowing le
 -- ---- accepted or not
 
 -- the words of a stretch of states
-pub part-states : (i m : ℕ) (ws : List ℕ) → tableOf (take (i * 5 + m * 5 - i * 5) (drop (i * 5) ws)) ≡ statesAt i m ws
+pub part-states : (i m : ℕ) (ws : List ℕ) → tableOf (take (i * 5 + m * 5 - i * 5) (drop (i * 5) ws)) ≡ statesAt tableOf i m ws
 part-states i m ws =
     let long : i * 5 + m * 5 - i * 5 ≡ m * 5 = omega arith in
     rw (long, table-take (drop (i * 5) ws) m, table-drop ws i)
 
 module _ (left m right k : ℕ) (ws rs : List ℕ) (b : Bool)
     (judged : b ≡ fits listing (rowsOf rs) (tableOf (take (left * 5 + m * 5 - left * 5) (drop (left * 5) ws))) (tableOf (take (right * 5 + k * 5 - right * 5) (drop (right * 5) ws)))) where
-  judged-so : b ≡ fits listing (rowsOf rs) (statesAt left m ws) (statesAt right k ws)
+  judged-so : b ≡ fits listing (rowsOf rs) (statesAt tableOf left m ws) (statesAt tableOf right k ws)
   judged-so = judged ∙ ap₂ (fits listing (rowsOf rs)) (part-states left m ws) (part-states right k ws)
 
   -- then its places exist
@@ -142,17 +142,17 @@ module _ (left m right k : ℕ) (ws rs : List ℕ) (b : Bool)
   unfolding fits
   judged-places l r room e =
       let all = sym judged-so ∙ e in
-      let both = and-left (placesExist (length (statesAt left m ws)) (length (statesAt right k ws)) (rowsOf rs) && _) _ all in
+      let both = and-left (placesExist (length (statesAt tableOf left m ws)) (length (statesAt tableOf right k ws)) (rowsOf rs) && _) _ all in
       rw (stretch-long left m (tableOf ws) (omega (arith, fits-table ws 5184 room)), stretch-long right k (tableOf ws) (omega (arith, fits-table ws 5184 room))) at
-      (and-left (placesExist (length (statesAt left m ws)) (length (statesAt right k ws)) (rowsOf rs)) _ both)
+      (and-left (placesExist (length (statesAt tableOf left m ws)) (length (statesAt tableOf right k ws)) (rowsOf rs)) _ both)
 
   -- and it is paired by its rows; otherwise from the front
-  pub given-rows : (n : ℕ) (T₀ T₁ : List State) → b ≡ true → InScratch (paired (rowsOf rs) (statesAt left m ws) (statesAt right k ws)) n T₀ T₁
-      → InScratch (joinBy states (pairing (rowsOf rs)) (statesAt left m ws) (statesAt right k ws)) n T₀ T₁ × (true ≡ entryFits listing (pairing (rowsOf rs)) (statesAt left m ws) (statesAt right k ws))
+  pub given-rows : (n : ℕ) (T₀ T₁ : List State) → b ≡ true → InScratch (paired (rowsOf rs) (statesAt tableOf left m ws) (statesAt tableOf right k ws)) n T₀ T₁
+      → InScratch (joinBy states (pairing (rowsOf rs)) (statesAt tableOf left m ws) (statesAt tableOf right k ws)) n T₀ T₁ × (true ≡ entryFits listing (pairing (rowsOf rs)) (statesAt tableOf left m ws) (statesAt tableOf right k ws))
   given-rows n T₀ T₁ e g = let yes = sym e ∙ judged-so in (rw (← yes) g, yes)
 
-  pub given-front : (n : ℕ) (T₀ T₁ : List State) → b ≡ false → InScratch (join (statesAt left m ws) (statesAt right k ws)) n T₀ T₁
-      → InScratch (joinBy states (pairing (rowsOf rs)) (statesAt left m ws) (statesAt right k ws)) n T₀ T₁ × (false ≡ entryFits listing (pairing (rowsOf rs)) (statesAt left m ws) (statesAt right k ws))
+  pub given-front : (n : ℕ) (T₀ T₁ : List State) → b ≡ false → InScratch (join (statesAt tableOf left m ws) (statesAt tableOf right k ws)) n T₀ T₁
+      → InScratch (joinBy states (pairing (rowsOf rs)) (statesAt tableOf left m ws) (statesAt tableOf right k ws)) n T₀ T₁ × (false ≡ entryFits listing (pairing (rowsOf rs)) (statesAt tableOf left m ws) (statesAt tableOf right k ws))
   given-front n T₀ T₁ e g = let no = sym e ∙ judged-so in (rw (← no) g, no)
 
 -- ---- the entry for a join

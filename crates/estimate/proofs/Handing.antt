@@ -5,15 +5,15 @@ use Prim.Native.Nat.{ℕ, zero, suc, _+_, _-_, _*_, _≤_, _<_}
 use native.Mathlib.Nat.{zero-add}
 use native.Mathlib.Numerals.{add-one}
 use native.Mathlib.Omega.{arith}
-use lib.ListN.{length, getD, set, take, drop, replicate, length-drop, length-replicate, replicate-append-replicate}
-use lib.Seq.{paste, paste-suc, drop-at, getD-drop}
+use lib.ListN.{length, getD, set, take, drop, replicate, length-drop}
+use lib.Seq.{paste, paste-suc, getD-drop}
 use Rattle.rules.specs.declared.State.{State}
 use Rattle.words.specs.Tables.{tableOf, wordsOf}
 use Rattle.words.proofs.Tables.{fifth, table-drop, fits-table}
 use Rattle.estimate.specs.Rooms.{filled, slotOf, tableIn}
 use Rattle.estimate.specs.Call.{written}
-use Rattle.estimate.proofs.Scratch.{stretch-long}
-use Rattle.estimate.proofs.Nodes.{counted, counted-few}
+use Rattle.rules.specs.Table.{listing}
+use Rattle.tables.proofs.Nodes.{counted, counted-few, zeros-rest, table-long}
 
 pub carry-turn : (ws vs us us′ : List ℕ) (from i : ℕ) → i < length ws → from + i < length vs → us ≡ paste ws 0 (drop from vs) i → us′ ≡ set us i (getD vs (from + i) 0)
     → us′ ≡ paste ws 0 (drop from vs) (i + 1)
@@ -37,22 +37,11 @@ words-there : (ws : List ℕ) (p n : ℕ) → (p + n) * 5 ≤ length ws → take
 words-there ws p n l =
     words-take (drop (p * 5) ws) n (omega (arith, length-drop (p * 5) ws)) ∙ ap (λ (T : List State). wordsOf (take n T)) (table-drop ws p)
 
-zeros-rest : (n k : ℕ) → k ≤ n → drop {A = ℕ} k (replicate n 0) ≡ replicate (n - k) 0
-zeros-rest n k l =
-    ap (drop {A = ℕ} k) (ap (λ (m : ℕ). replicate {A = ℕ} m 0) all ∙ sym (replicate-append-replicate k (n - k) 0))
-    ∙ drop-at {A = ℕ} (replicate k 0) (replicate (n - k) 0) k (length-replicate {A = ℕ} k 0)
-  where
-    all : n ≡ k + (n - k)
-    all = omega arith
-
 -- the table in a slot, handed over
 module _ (last m : ℕ) (ws : List ℕ) (l : last < 64) (long : 25920 ≤ length ws) (count : m ≡ filled (slotOf last (tableOf ws))) where
-  pub table-long : m ≡ length (tableIn last (tableOf ws))
-  table-long = sym (ap length (sym (counted last m (tableOf ws) count)) ∙ stretch-long (last * 64) m (tableOf ws) (omega (arith, counted-few last m (tableOf ws) count, fits-table ws 5184 long)))
-
   pub handed-over : (rs zs us : List ℕ) → m * 5 ≤ length rs → zs ≡ replicate (length rs) 0 → us ≡ paste zs 0 (drop (last * 64 * 5) ws) (m * 5)
       → us ≡ written (tableIn last (tableOf ws)) (length rs)
   handed-over rs zs us room z q =
       q ∙ ap₂ (λ (us vs : List ℕ). us ++ vs)
-      (words-there ws (last * 64) m (omega (arith, counted-few last m (tableOf ws) count)) ∙ ap wordsOf (counted last m (tableOf ws) count))
-      (ap₂ (λ (k : ℕ) (W : List ℕ). drop k W) (zero-add (m * 5)) z ∙ zeros-rest (length rs) (m * 5) room ∙ ap (λ (k : ℕ). replicate (length rs - k * 5) 0) table-long)
+      (words-there ws (last * 64) m (omega (arith, counted-few listing last m (tableOf ws) count)) ∙ ap wordsOf (counted listing last m (tableOf ws) count))
+      (ap₂ (λ (k : ℕ) (W : List ℕ). drop k W) (zero-add (m * 5)) z ∙ zeros-rest (length rs) (m * 5) room ∙ ap (λ (k : ℕ). replicate (length rs - k * 5) 0) (table-long listing last m (tableOf ws) count (omega (arith, fits-table ws 5184 long))))

@@ -16,7 +16,7 @@ use Rattle.rules.specs.Graph.{lastAt, agreeAll, lastBefore, nodeLast, lastsTo}
 use Rattle.rules.specs.Shape.{Every}
 use Rattle.rules.proofs.Refusals.{Checked, predecessor-lower}
 use Rattle.rules.proofs.Graph.{lastOf, last-stays}
-use Rattle.estimate.proofs.Graphs.{every-among}
+use Rattle.tables.proofs.Inputs.{every-among}
 
 -- ---- agreeing
 

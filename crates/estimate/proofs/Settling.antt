@@ -1,61 +1,36 @@
--- A table in its place: what the folds leave in the scratch is copied there, and each access starts from what the one before it left.
-use mathlib.Core.Path.{_≡_, refl, sym, ap, _∙_}
+-- A table in its place: an access of it can be worked and fits, and each access starts from what the one before it left. What is the same for every kind of table is in
+-- tables/proofs/Settling.
+use mathlib.Core.Path.{_≡_, refl}
 use mathlib.Core.Bool.{true}
 use mathlib.Core.List.{List, [], _∷_}
-use Prim.Native.Nat.{ℕ, suc, _+_, _≤_, _<_}
+use Prim.Native.Nat.{ℕ, suc, _≤_}
 use native.Mathlib.Omega.{arith}
-use lib.ListN.{length, take, drop, getD, length-drop, drop-of-length-le}
-use lib.Seq.{paste, drop-cons}
+use lib.ListN.{length, take, drop}
 use Rattle.rules.specs.declared.Cache.{Cache}
 use Rattle.rules.specs.declared.Last.{Last}
-use Rattle.rules.specs.declared.Last.the-variants.{Block as block}
 use Rattle.rules.specs.declared.Target.{Target}
 use Rattle.rules.specs.declared.State.{State}
 use Rattle.rules.specs.Units.{whole, more}
 use Rattle.rules.specs.Contents.{among, targetOf}
 use Rattle.rules.specs.Refusals.{setCounts}
-use Rattle.rules.specs.AnyTable.{advance as advanceAny, run as runAny, total as totalAny}
-use Rattle.rules.specs.Table.{rising, total, unitsOf, Work}
+use Rattle.rules.specs.AnyTable.{advance as advanceAny}
+use Rattle.rules.specs.Table.{rising, unitsOf, Work, listing}
 use Rattle.rules.specs.Shape.{Every, Aimed, Shaped, Table}
 use Rattle.rules.specs.Step.{access, accessAside}
-use Rattle.rules.specs.Fold.{folded}
+use Rattle.rules.specs.Fold.{folded, states}
 use Rattle.rules.specs.Run.{advance, run}
 use Rattle.rules.proofs.Table.{rising-is}
 use Rattle.rules.proofs.Run.{rising-access, access-length, table-advance, table-wider, advance-aside}
 use Rattle.rules.proofs.Refusals.{counts-some, counts-few}
 use Rattle.rules.proofs.Sets.{aimed, room-risk}
 use Rattle.words.specs.Tables.{tableOf}
-use Rattle.estimate.specs.Rooms.{InScratch, Stands, InPlace}
+use Rattle.estimate.specs.Rooms.{InScratch, InPlace}
 use Rattle.estimate.specs.Following.{Placed, Workable}
 use Rattle.estimate.specs.Working.{workAt, InRange, Ready}
 use Rattle.words.proofs.Tables.{fits-table}
-use Rattle.estimate.proofs.Scratch.{stretch-kept, stretch-long}
-use Rattle.estimate.proofs.Nodes.{paste-there, paste-take}
-
--- ---- from the scratch to a place
-
--- w stands in the scratch of T₂, whose slots are T's; the copy puts it at place `at`
-pub settled : (w : Work) (at m a : ℕ) (T T₂ T₃ : List State) → at + 64 ≤ 4096 → m ≤ 64 → 5184 ≤ length T₂ → Stands w m a (drop 4096 T₂)
-    → take 4096 T₂ ≡ take 4096 T → T₃ ≡ paste T₂ at (drop 4096 T₂) m → InPlace w at m a T T₃
-settled w at m a T T₂ T₃ slot few long s e q =
-    record {
-      stands = record { count = s .count; table = ap (λ (U : List State). take m (drop at U)) q ∙ paste-there T₂ (drop 4096 T₂) at m (omega arith) (omega (arith, length-drop 4096 T₂)) ∙ s .table; aside = s .aside };
-      before = ap (take at) q ∙ paste-take T₂ (drop 4096 T₂) at m at (omega arith) (omega arith) ∙ stretch-kept 0 at 4096 T T₂ (omega arith) e;
-    }
-
--- w was settled from X in the scratch, and the slots were T's before
-pub settled-from : (K : ℕ) (X X′ : List State) (a a′ : ℕ) (at m b : ℕ) (T T₂ T₃ : List State) → X ≡ X′ → a ≡ a′ → at ≤ 4096 → take 4096 T₂ ≡ take 4096 T
-    → InPlace (folded K (record { table = X; aside = a })) at m b T₂ T₃ → InPlace (folded K (record { table = X′; aside = a′ })) at m b T T₃
-settled-from K X X′ a a′ at m b T T₂ T₃ p q low e g =
-    record { stands = rw (← p, ← q) (g .stands); before = g .before ∙ stretch-kept 0 at 4096 T T₂ (omega arith) e }
+use Rattle.tables.proofs.Settling.{unit-most, settled-from, stands-there, ran-all, Ran}
 
 -- ---- an access of a table at a place
-
--- no state has more units than all have together
-unit-most : (T : List State) (n : ℕ) → total T ≤ n → Every (λ s. unitsOf s ≤ n) T
-unfolding totalAny
-unit-most [] n h = tt
-unit-most (s ∷ T) n h = (omega arith, unit-most T n (omega arith))
 
 module _ (N Z : ℕ) (ts : List ℕ) (few : N ≤ 16) (x : Target) (aim : Aimed Z ts x) where
   workables : (M : ℕ) (T : List State) → M ≤ 4095 → Every (Shaped N Z ts M) T → Every (λ s. unitsOf s ≤ whole) T → Every (Workable N x) T
@@ -64,7 +39,7 @@ module _ (N Z : ℕ) (ts : List ℕ) (few : N ≤ 16) (x : Target) (aim : Aimed 
       ((omega (arith, h .0 .0 .few), u .0, room-risk N Z ts few x aim (s .mask) (s .filled) (h .0 .0 .small)), workables M T l (h .1) (u .1))
 
   pub workable : (K M : ℕ) (T : List State) → M ≤ 4095 → Table N Z ts K M T → Every (Workable N x) T
-  workable K M T l t = workables M T l (t .shaped) (unit-most T whole (rw (t .full) (omega arith)))
+  workable K M T l t = workables M T l (t .shaped) (unit-most listing T whole (rw (t .full) (omega arith)))
 
   pub placed : length ts ≤ 16 → Placed x
   placed short = (λ i p. omega (arith, short, aim .placed i p), aim .near)
@@ -85,27 +60,9 @@ pub advanced : (N K : ℕ) (x y : Target) (w : Work) (at r a m b : ℕ) (T T₁ 
     → a ≡ more (w .aside) (accessAside N x (w .table))
     → InPlace (folded K (record { table = take r (drop 4096 T₁); aside = a })) at m b T₁ T₂ → InPlace (advance N K y w) at m b T T₂
 unfolding advanceAny
-advanced N K x y w at r a m b T T₁ T₂ p low g q h = rw (← p) (settled-from K _ _ _ _ at m b T T₁ T₂ (g .table) q low (g .slots) h)
+advanced N K x y w at r a m b T T₁ T₂ p low g q h = rw (← p) (settled-from states K _ _ _ _ at m b T T₁ T₂ (g .table) q low (g .slots) h)
 
 -- ---- accesses one after the other
-
--- as far as access i, from w and the last block l; k is the last block then
-module _ (N Z K : ℕ) (ts bs : List ℕ) where
-  abbrev pub Ran : ℕ → Last → Work → Last → Work → Type 0
-  Ran i k v l w = run N Z K ts k (drop i bs) v ≡ run N Z K ts l bs w
-
-  pub ran-next : (i : ℕ) (k : Last) (v : Work) (l : Last) (w : Work) (b : ℕ) → i < length bs → b ≡ getD bs i 0 → Ran i k v l w
-      → Ran (suc i) (block b) (advance N K (targetOf Z ts k b) v) l w
-  unfolding runAny
-  ran-next i k v l w b here e h = rw e (sym (ap (λ (cs : List ℕ). run N Z K ts k cs v) (drop-cons bs i 0 here))) ∙ h
-
-  ran-all : (i : ℕ) (k : Last) (v : Work) (l : Last) (w : Work) → length bs ≤ i → Ran i k v l w → v ≡ run N Z K ts l bs w
-  unfolding runAny
-  ran-all i k v l w past h = sym (ap (λ (cs : List ℕ). run N Z K ts k cs v) (drop-of-length-le bs {i = i} past)) ∙ h
-
--- the work at a place is what stands there
-pub stands-work : (w : Work) (at n a : ℕ) (ws : List ℕ) (T : List State) → InPlace w at n a T (tableOf ws) → workAt at n a ws ≡ w
-stands-work w at n a ws T g = rw (g .stands .table, g .stands .aside) refl
 
 -- a table that can be worked on still can where more misses are allowed, and after an access
 pub ready-wider : (c : Cache) (ts : List ℕ) (K M L at n a : ℕ) (ws : List ℕ) → M ≤ L → Ready c ts K M at n a ws → Ready c ts K L at n a ws
@@ -140,10 +97,7 @@ ready-next c ts K L M at n a n′ a′ k b ws ws′ l e r g =
 
 -- when no access is to come, the table stands where it is to
 pub ran-stands : (c : Cache) (ts : List ℕ) (K M at n a i : ℕ) (bs ws : List ℕ) (k l : Last) (w : Work) (T : List State) → length bs ≤ i → Ready c ts K M at n a ws
-    → take at (tableOf ws) ≡ take at T → Ran (c .ways) (c .sets) K ts bs i k (workAt at n a ws) l w → InPlace (run (c .ways) (c .sets) K ts l bs w) at n a T (tableOf ws)
+    → take at (tableOf ws) ≡ take at T → Ran states (c .ways) (c .sets) K ts bs i k (workAt at n a ws) l w → InPlace (run (c .ways) (c .sets) K ts l bs w) at n a T (tableOf ws)
 ran-stands c ts K M at n a i bs ws k l w T past r e h =
-    rw (← ran-all (c .ways) (c .sets) K ts bs i k (workAt at n a ws) l w past h)
-    record {
-      stands = record { count = sym (stretch-long at n (tableOf ws) (omega (arith, r .slot, r .count, fits-table ws 5184 (r .room)))); table = refl; aside = refl };
-      before = e;
-    }
+    rw (← ran-all states (c .ways) (c .sets) K ts bs i k (workAt at n a ws) l w past h)
+    (stands-there at n a _ (tableOf ws) (omega (arith, r .slot, r .count, fits-table ws 5184 (r .room))) e)

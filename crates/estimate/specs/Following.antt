@@ -1,15 +1,15 @@
 -- The states that follow a state, in the order in which they are put in.
-use mathlib.Core.Bool.{cond}
-use mathlib.Core.List.{List, [], _∷_}
+use mathlib.Core.List.{List}
 use Prim.Native.Nat.{ℕ, suc, _≤_, _<_}
 use Rattle.rules.specs.declared.Target.{Target}
 use Rattle.rules.specs.declared.State.{State}
 use Rattle.rules.specs.Units.{whole}
-use Rattle.rules.specs.Contents.{bit, size, with, without}
+use Rattle.rules.specs.Contents.{size, with, without}
 use Rattle.rules.specs.Filling.{fillOne}
 use Rattle.rules.specs.Table.{state, unitsOf}
 use Rattle.rules.specs.Step.{atRisk}
 use Rattle.rules.specs.Shape.{Listed}
+use Rattle.tables.specs.Following.{lostAt as lostAny}
 
 -- s after a miss, as far as the filled numbers go: one more way of the accessed set may be filled
 abbrev pub fuller : ℕ → Target → State → State
@@ -19,9 +19,13 @@ fuller N x s = state (s .mask) (s .misses) (fillOne N (x .set) (s .filled)) (uni
 abbrev pub missedFrom : Target → State → ℕ → ℕ → State
 missedFrom x s C u = state (with C (x .place)) (suc (s .misses)) (s .filled) u
 
+-- what a way that loses the block at place e makes of s: one more miss, and q units
+abbrev pub losing : Target → State → ℕ → ℕ → State
+losing x s q e = missedFrom x s (without (s .mask) e) q
+
 -- what is left where the block at place e gives way: nothing if it is none of E
-unfoldable pub lostAt : Target → State → ℕ → ℕ → ℕ → List State
-lostAt x s E q e = cond (bit E e) (missedFrom x s (without (s .mask) e) q ∷ []) []
+abbrev pub lostAt : Target → State → ℕ → ℕ → ℕ → List State
+lostAt x s E q e = lostAny (losing x s q) E e
 
 -- x has one of 16 places or none, and one of 16 sets
 abbrev pub Placed : Target → Type 0

@@ -4,8 +4,6 @@ pub mod Placing
 pub mod Rooms
 -- The states that follow
 pub mod Following
--- The edges of a flat list
-pub mod Edges
 -- The partner in a fold
 pub mod Partners
 -- Joining two tables

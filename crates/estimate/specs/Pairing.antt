@@ -1,17 +1,8 @@
--- What is first of a table that is walked from the front, and what is first when some units of it are used.
-use mathlib.Core.Bool.{cond}
-use mathlib.Core.List.{List}
-use Prim.Native.Nat.{ℕ, suc}
-use lib.Dec.{eqb}
+-- What is first of a table that is walked from the front.
 use Rattle.rules.specs.declared.State.{State}
-use Rattle.rules.specs.Table.{unitsOf, stateAt}
-use Rattle.rules.specs.Join.{less}
+use Rattle.tables.specs.Fronts.{Front as AnyFront}
 use Rattle.estimate.specs.declared.join.Front.{Front}
 
--- nothing is used yet of the state at place i; past the end there is none, with 0 units
-abbrev pub frontAt : List State → ℕ → Front
-frontAt S i = record { at = i; state = stateAt S i }
-
--- u units more are used of the first state: if those are all, the next one is first
-abbrev pub frontAfter : List State → ℕ → Front → Front
-frontAfter S u f = cond (eqb (unitsOf (f .state)) u) (frontAt S (suc (f .at))) (record { at = f .at; state = less (f .state) u })
+-- as it is said of any kind of table
+abbrev pub frontOf : Front → AnyFront State
+frontOf f = record { place = f .at; state = f .state }

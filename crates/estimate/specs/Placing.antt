@@ -1,36 +1,19 @@
--- States put into the first n states of a list T, which are r states then.
-use mathlib.Core.Path.{_≡_}
-use mathlib.Core.Bool.{Bool, true, false, cond}
-use mathlib.Core.List.{List, [], _∷_}
-use Prim.Native.Nat.{ℕ, suc}
-use lib.ListN.{length, take}
+-- States put into the first n states of a list T, which are r states then: what is said of any kind of state, for this table's.
+use mathlib.Core.List.{List}
+use Prim.Native.Nat.{ℕ}
 use Rattle.rules.specs.declared.State.{State}
-use Rattle.rules.specs.Ordered.{Order, before, same, after, insert}
-use Rattle.rules.specs.Table.{order, plus, add}
-
--- the first of the two stands after the second
-abbrev pub isAfter : Order → Bool
-isAfter before = false
-isAfter same = false
-isAfter after = true
-
--- the two stand at the same place
-abbrev pub isSame : Order → Bool
-isSame before = false
-isSame same = true
-isSame after = false
+use Rattle.rules.specs.Table.{listing}
+pub use Rattle.tables.specs.Placing.{isAfter, isSame}
+use Rattle.tables.specs.Placing.{placeOf as placeAny, Inserted as InsertedAny, Added as AddedAny}
 
 -- how many of the first states stand before s
-unfoldable pub placeOf : State → List State → ℕ
-placeOf s [] = 0
-placeOf s (t ∷ T) = cond (isAfter (order s t)) (suc (placeOf s T)) 0
+abbrev pub placeOf : State → List State → ℕ
+placeOf s T = placeAny listing s T
 
 -- s is inserted
-pub record Inserted (s : State) (n r : ℕ) (T T′ : List State) : Type 0 where
-  pub count : r ≡ length (insert order plus s (take n T))
-  pub table : take r T′ ≡ insert order plus s (take n T)
+abbrev pub Inserted : State → ℕ → ℕ → List State → List State → Type 0
+Inserted s n r T T′ = InsertedAny listing s n r T T′
 
 -- the states S are added; those of 0 units vanish
-pub record Added (S : List State) (n r : ℕ) (T T′ : List State) : Type 0 where
-  pub count : r ≡ length (add S (take n T))
-  pub table : take r T′ ≡ add S (take n T)
+abbrev pub Added : List State → ℕ → ℕ → List State → List State → Type 0
+Added S n r T T′ = AddedAny listing S n r T T′

@@ -1,61 +1,24 @@
--- The working room, as states: 64 slots of 64 states, a node's table in each, and behind them, from place 4,096 on, the scratch.
-use mathlib.Core.Path.{_≡_}
-use mathlib.Core.Bool.{cond}
-use mathlib.Core.List.{List, [], _∷_, _++_}
-use Prim.Native.Nat.{ℕ, zero, suc, _*_}
-use lib.Dec.{eqb}
-use lib.ListN.{length, take, drop}
+-- The working room, as states: what is said of any kind of state, for this table's.
+use mathlib.Core.List.{List}
+use Prim.Native.Nat.{ℕ}
 use Rattle.rules.specs.declared.State.{State}
-use Rattle.rules.specs.Table.{unitsOf, Work}
+use Rattle.rules.specs.Table.{listing, Work}
 use Rattle.rules.specs.Graph.{Worked}
-
--- ---- the scratch
-
--- the r states X stand in the scratch, and the slots are as they were
-pub record InScratch (X : List State) (r : ℕ) (T T′ : List State) : Type 0 where
-  pub count : r ≡ length X
-  pub table : take r (drop 4096 T′) ≡ X
-  pub slots : take 4096 T′ ≡ take 4096 T
-
--- ---- a table at a place
-
--- w in the first n states of T, with the count a: how many states it has, the states, the set-aside count
-pub record Stands (w : Work) (n a : ℕ) (T : List State) : Type 0 where
-  pub count : n ≡ length (w .table)
-  pub table : take n T ≡ w .table
-  pub aside : a ≡ w .aside
-
--- w at place p, and what is before that place is as it was
-pub record InPlace (w : Work) (p n a : ℕ) (T T′ : List State) : Type 0 where
-  pub stands : Stands w n a (drop p T′)
-  pub before : take p T′ ≡ take p T
-
--- ---- the slots
+pub use Rattle.tables.specs.Rooms.{InScratch, Stands, InPlace, slotOf}
+use Rattle.tables.specs.Rooms.{filled as filledAny, tableIn as tableInAny, workedIn as workedInAny, NodeDone as NodeDoneAny}
 
 -- how many states stand before the first of 0 units
-unfoldable pub filled : List State → ℕ
-filled [] = 0
-filled (s ∷ T) = cond (eqb (unitsOf s) 0) 0 (suc (filled T))
-
--- slot j: 64 states
-abbrev pub slotOf : ℕ → List State → List State
-slotOf j T = take 64 (drop (j * 64) T)
+abbrev pub filled : List State → ℕ
+filled T = filledAny listing T
 
 -- the table in slot j: its states before the first of 0 units
-unfoldable pub tableIn : ℕ → List State → List State
-tableIn j T = take (filled (slotOf j T)) (slotOf j T)
-
--- the tables in the first j slots
-unfoldable pub tablesIn : ℕ → List State → List (List State)
-tablesIn zero T = []
-tablesIn (suc j) T = tablesIn j T ++ (tableIn j T ∷ [])
+abbrev pub tableIn : ℕ → List State → List State
+tableIn j T = tableInAny listing j T
 
 -- the nodes before node j, with the set-aside count a
 abbrev pub workedIn : ℕ → ℕ → List State → Worked
-workedIn j a T = record { tables = tablesIn j T; aside = a }
+workedIn j a T = workedInAny listing j a T
 
 -- node j is worked to w: its table is in its slot, and the slots before it are as they were
-pub record NodeDone (w : Work) (j a : ℕ) (T T′ : List State) : Type 0 where
-  pub table : tableIn j T′ ≡ w .table
-  pub aside : a ≡ w .aside
-  pub before : take (j * 64) T′ ≡ take (j * 64) T
+abbrev pub NodeDone : Work → ℕ → ℕ → List State → List State → Type 0
+NodeDone w j a T T′ = NodeDoneAny listing w j a T T′

@@ -1,9 +1,4 @@
 // One access: the states that follow those of a table.
-use crate::contents::has_block;
-use crate::contents::has_place;
-use crate::contents::size_of;
-use crate::contents::with_block;
-use crate::contents::without_place;
 use crate::filled::fill_one;
 use crate::filled::number_of;
 use crate::memory::load;
@@ -12,6 +7,11 @@ use crate::states::Tally;
 use rules::State;
 use rules::Target;
 use rules::Units;
+use tables::has_block;
+use tables::has_place;
+use tables::size_of;
+use tables::with_block;
+use tables::without_place;
 ghost use mathlib.Core.Path.{_≡_};
 ghost use mathlib.Core.Bool.{true};
 ghost use mathlib.Core.List.{map};

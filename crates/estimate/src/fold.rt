@@ -1,7 +1,5 @@
 // Folding a table down to the state limit.
-use crate::contents::size_of;
 use crate::filled::same_filled;
-use crate::join::smaller;
 use crate::memory::load;
 use crate::memory::store;
 use crate::placing::add;
@@ -13,6 +11,8 @@ use basics::larger;
 use rules::Pair;
 use rules::State;
 use rules::Units;
+use tables::size_of;
+use tables::smaller;
 ghost use mathlib.Core.Path.{_≡_};
 ghost use mathlib.Core.Logic.{_≢_};
 ghost use mathlib.Core.Bool.{true, cond, _||_, _&&_, not};

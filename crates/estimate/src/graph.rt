@@ -16,6 +16,7 @@ use rules::Cache;
 use rules::Last;
 use rules::State;
 use rules::Units;
+use tables::next_edge;
 ghost use mathlib.Core.Path.{_≡_};
 ghost use mathlib.Core.Bool.{_&&_};
 ghost use Prim.Native.Nat.{_+_, _-_, _*_, _≤_, _<_};
@@ -30,23 +31,8 @@ ghost use Rattle.rules.proofs.Entries.{Formed};
 ghost use Rattle.rules.proofs.Refusals.{Checked};
 ghost use Rattle.words.specs.Tables.{tableOf};
 ghost use Rattle.estimate.specs.Rooms.{InPlace, NodeDone, workedIn};
-ghost use Rattle.estimate.specs.Edges.{cameFrom, AtEdge};
+ghost use Rattle.tables.specs.Edges.{cameFrom};
 ghost use Rattle.estimate.specs.Working.{workAt, startOf, Startable};
-
-// Where the next edge into node `to` stands, from place `start` of the list on; the list's end if there is none.
-pub(crate) fn next_edge(edges: &[u32], to: usize, start: usize) -> usize
-    requires { ⌜ start ≤ length (now edges) ⌝ }
-    ensures { λ r. ⌜ (start ≤ r) × (r ≤ length (now (edges .entry))) × AtEdge (now (edges .entry)) to r × (cameFrom (now (edges .entry)) to r ≡ cameFrom (now (edges .entry)) to start) ⌝ }
-{
-    let mut e: usize = start;
-    while e + 1 < edges.len() {
-        if edges[e + 1] as usize == to {
-            return e;
-        }
-        e += 2;
-    }
-    edges.len()
-}
 
 // The set-aside count over the nodes so far, and whether every pairing handed in for their joins is accepted.
 pub(crate) struct Done {

@@ -5,16 +5,18 @@ use crate::states::meet;
 use rules::Filled;
 use rules::State;
 use rules::Units;
+use tables::smaller;
 ghost use mathlib.Core.Path.{_≡_};
 ghost use mathlib.Core.Bool.{true};
 ghost use mathlib.Core.List.{[], _∷_};
-ghost use Prim.Native.Nat.{_+_, _*_, _≤_, _<_, min};
+ghost use Prim.Native.Nat.{_+_, _*_, _≤_, _<_};
 ghost use lib.ListN.{length, take, drop};
 ghost use Rattle.rules.specs.Join.{join};
-ghost use Rattle.rules.specs.Table.{unitsOf, rising, add as addOf};
+ghost use Rattle.rules.specs.Table.{listing, unitsOf, rising, add as addOf};
 ghost use Rattle.words.specs.Tables.{tableOf};
 ghost use Rattle.estimate.specs.Rooms.{InScratch};
-ghost use Rattle.estimate.specs.Pairing.{frontAt, frontAfter};
+ghost use Rattle.tables.specs.Fronts.{frontAt, frontAfter};
+ghost use Rattle.estimate.specs.Pairing.{frontOf};
 
 // What is first of a table that is walked: its place, and the state there with the units that are left of it.
 pub(crate) struct Front {
@@ -22,19 +24,10 @@ pub(crate) struct Front {
     pub state: State,
 }
 
-pub(crate) fn smaller(a: Units, b: Units) -> Units
-    ensures { λ r. ⌜ r .0 ≡ min (a .0) (b .0) ⌝ }
-{
-    if b.0 < a.0 {
-        return b;
-    }
-    a
-}
-
 // What is first from place `at` on, of the `m` states at place `from`; past them, a state of 0 units.
 pub(crate) fn front_at(words: &[u64], from: usize, m: usize, at: usize) -> Front
     requires { ⌜ (from + m) * 5 ≤ length (now words) ⌝ }
-    ensures { λ r. ⌜ r ≡ frontAt (take m (drop from (tableOf (now (words .entry))))) at ⌝ }
+    ensures { λ r. ⌜ frontOf r ≡ frontAt listing (take m (drop from (tableOf (now (words .entry))))) at ⌝ }
 {
     if at < m {
         return Front {
@@ -56,7 +49,7 @@ pub(crate) fn front_at(words: &[u64], from: usize, m: usize, at: usize) -> Front
 // What is first when `used` units of the first state are used.
 pub(crate) fn after(words: &[u64], from: usize, m: usize, front: Front, used: Units) -> Front
     requires { ⌜ ((from + m) * 5 ≤ length (now words)) × (front .at < m) × (used .0 ≤ unitsOf (front .state)) ⌝ }
-    ensures { λ r. ⌜ r ≡ frontAfter (take m (drop from (tableOf (now (words .entry))))) (used .0) front ⌝ }
+    ensures { λ r. ⌜ frontOf r ≡ frontAfter listing (take m (drop from (tableOf (now (words .entry))))) (used .0) (frontOf front) ⌝ }
 {
     let s = front.state;
     let filled = s.filled;

@@ -1,23 +1,14 @@
 // The block accessed directly before: what is known of it before a node and after a run. An array beside the working room has it for each node.
-use crate::graph::next_edge;
 use rules::Last;
+use tables::is_last;
+use tables::next_edge;
 ghost use mathlib.Core.Path.{_≡_};
 ghost use Prim.Native.Nat.{_≤_};
 ghost use lib.ListN.{length};
-ghost use Rattle.rules.specs.Contents.{isLast, agreed, lastAfter};
+ghost use Rattle.rules.specs.Contents.{agreed, lastAfter};
 ghost use Rattle.rules.specs.Graph.{lastAt, agreeAll, lastBefore};
 ghost use Rattle.rules.specs.Input.{edgesOf, predecessors};
-ghost use Rattle.estimate.specs.Edges.{cameFrom};
-
-// Whether `block` was accessed directly before.
-pub(crate) fn is_last(last: Last, block: u32) -> bool
-    ensures { λ r. ⌜ r ≡ isLast last block ⌝ }
-{
-    match last {
-        Last::Unknown => false,
-        Last::Block(before) => before == block,
-    }
-}
+ghost use Rattle.tables.specs.Edges.{cameFrom};
 
 // What `one` says, if `other` says the same.
 pub(crate) fn agree(one: Last, other: Last) -> Last

@@ -15,7 +15,6 @@ ghost use Rattle.rules.specs.Refusals.{verdict};
 ghost use Rattle.estimate.specs.Call.{handed, analysed, analysedPaired};
 
 mod access;
-mod contents;
 mod filled;
 mod finish;
 mod fold;

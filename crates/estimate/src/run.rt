@@ -1,6 +1,5 @@
 // Accesses one after the other, and a table joined: each followed by its folds.
 use crate::access::gather;
-use crate::contents::aim;
 use crate::fold::fold_down;
 use crate::handed::pair_entry;
 use crate::memory::copy;
@@ -10,6 +9,7 @@ use crate::states::both;
 use rules::Cache;
 use rules::Last;
 use rules::Units;
+use tables::aim;
 ghost use mathlib.Core.Path.{_≡_};
 ghost use mathlib.Core.Bool.{true, _&&_};
 ghost use Prim.Native.Nat.{_+_, _*_, _-_, _≤_};

@@ -43,7 +43,7 @@ fn among(list: &[u32], b: u32) -> bool
 }
 
 // Whether `sets` is one of the set counts that there are.
-fn is_set_count(sets: u32) -> bool
+pub fn is_set_count(sets: u32) -> bool
     ensures { λ r. ⌜ r ≡ among setCounts sets ⌝ }
 {
     among(&[1, 2, 4, 8, 16], sets)

@@ -10,7 +10,7 @@ use Rattle.rules.specs.declared.Pair.{Pair}
 use Rattle.rules.specs.AnyTable.{foldAt as foldAtOf}
 use Rattle.rules.specs.Table.{State, noState, unitsOf, initial, listing, total, stateAt, Work}
 use Rattle.rules.specs.Units.{whole, more}
-use Rattle.rules.specs.Fold.{states, meet, changed, foldAt, fold, folded}
+use Rattle.rules.specs.Fold.{states, meet, changed, foldAt, folded}
 use Rattle.rules.specs.Shape.{Every, Loose, Shaped}
 use Rattle.rules.specs.Filling.{Filled, filledAt}
 use Rattle.rules.proofs.Splitting.{more-most}
@@ -19,7 +19,7 @@ use Rattle.rules.proofs.Contents.{shared-lt}
 use Rattle.rules.proofs.Sets.{room-zero, room-shared}
 use Rattle.rules.proofs.Filling.{none-at}
 use Rattle.rules.proofs.Table.{states-lawful, weigh-weight, Rising, Weight, weightOf, worthOf, worth}
-use Rattle.rules.proofs.AnyTable.{Keeps, Starts, shaped-fold as shaped-fold-any, firstOf as firstOfAny, secondOf as secondOfAny, othersOf as othersOfAny, meetOf as meetOfAny, fold-before as fold-before-any, fold-after as fold-after-any, fold-total as fold-total-any, rising-fold as rising-fold-any, folded-keeps as folded-keeps-any, folded-total as folded-total-any, rising-folded as rising-folded-any, fold-shorter as fold-shorter-any, length-folded as length-folded-any}
+use Rattle.rules.proofs.AnyTable.{Keeps, Starts, shaped-fold as shaped-fold-any, firstOf as firstOfAny, secondOf as secondOfAny, othersOf as othersOfAny, meetOf as meetOfAny, fold-before as fold-before-any, fold-after as fold-after-any, fold-total as fold-total-any, folded-keeps as folded-keeps-any, folded-total as folded-total-any, rising-folded as rising-folded-any, length-folded as length-folded-any}
 
 -- ---- the parts of a fold
 
@@ -60,9 +60,6 @@ fold-total p w h = fold-total-any states states-lawful p w h
 
 -- ---- its shape
 
-pub rising-fold : (p : Pair) (w : Work) → Rising (w .table) → Rising (foldAt p w .table)
-rising-fold p w h = rising-fold-any states states-lawful p w h
-
 module _ (N Z : ℕ) (ts : List ℕ) (M : ℕ) where
   pub loose-none : Loose N Z ts M noState
   loose-none = record { masked = pow-pos (length ts); few = zero-le; small = room-zero N Z ts (noState .filled) (λ j. rw (none-at j) zero-le) }
@@ -96,9 +93,6 @@ pub rising-folded : (K : ℕ) (w : Work) → Rising (w .table) → Rising (folde
 rising-folded K w h = rising-folded-any states states-lawful K w h
 
 -- ---- to K states
-
-pub fold-shorter : (w : Work) → 1 < length (w .table) → length (fold w .table) < length (w .table)
-fold-shorter w l = fold-shorter-any states w l
 
 pub length-folded : (K : ℕ) (w : Work) → 0 < K → length (folded K w .table) ≤ K
 length-folded K w h = length-folded-any states K w h

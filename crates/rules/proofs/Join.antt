@@ -2,17 +2,17 @@
 -- totals: the laws of every kind of table (Pairings, AnyTable), for document 01's states.
 use mathlib.Core.Path.{_≡_}
 use mathlib.Core.List.{List}
-use Prim.Native.Nat.{ℕ, suc, _+_, _*_, _≤_, min}
+use Prim.Native.Nat.{ℕ, _+_, _*_, _≤_}
 use lib.ListN.{length}
 use Rattle.basics.specs.Sums.{sumOver}
 use Rattle.rules.specs.Units.{whole}
-use Rattle.rules.specs.Table.{State, unitsOf, listing, total, stateAt}
+use Rattle.rules.specs.Table.{State, listing, total, stateAt}
 use Rattle.rules.specs.Fold.{states}
-use Rattle.rules.specs.Join.{Match, matched, paired, leftAfter, fromFront, join}
+use Rattle.rules.specs.Join.{Match, matched, paired, fromFront, join}
 use Rattle.rules.specs.Shape.{Every, Shaped}
 use Rattle.rules.proofs.Fold.{states-keep}
 use Rattle.rules.proofs.Table.{states-lawful, weigh-weight, Rising, Weight, weightOf, worthOf, worth}
-use Rattle.rules.proofs.Pairings.{Uses as UsesOf, matched-worth as matched-worth-any, length-after as length-after-any, front-uses as front-uses-any}
+use Rattle.rules.proofs.Pairings.{Uses as UsesOf, matched-worth as matched-worth-any, front-uses as front-uses-any}
 use Rattle.rules.proofs.AnyTable.{paired-worth as paired-worth-any, join-total as join-total-any, rising-join as rising-join-any, length-join as length-join-any, shaped-join as shaped-join-any}
 
 -- every place exists, and each state's units are used exactly
@@ -27,11 +27,6 @@ matched-worth side P T u f = matched-worth-any listing side P T u (weightOf f)
 module _ (P : List Match) (S T : List State) (uses : Uses (λ m. m .left) P S) (full : total S ≤ whole) where
   pub paired-worth : (f : Weight) → worth f (paired P S T) ≡ sumOver (λ m. worthOf f (matched S T m)) P
   paired-worth f = paired-worth-any states states-lawful P S T uses full (weightOf f) (weigh-weight f)
-
--- each step of the walk uses up a state of one of the two
-pub length-after : (s t : State) (S T : List State)
-    → length (leftAfter (min (unitsOf s) (unitsOf t)) s S) + length (leftAfter (min (unitsOf s) (unitsOf t)) t T) ≤ length S + suc (length T)
-length-after s t S T = length-after-any listing s t S T
 
 -- document 01's pairing uses the units of both tables exactly
 pub front-uses : (S T : List State) → total S ≡ total T → Uses (λ m. m .left) (fromFront S T) S × Uses (λ m. m .right) (fromFront S T) T

@@ -294,9 +294,6 @@ order-same s t e =
       same-filled (s .filled) (t .filled) (said-same (s .filled .front) (t .filled .front) c, said-same (s .filled .back) (t .filled .back) d),
     )
 
-pub order-after : (s t u : State) → order s t ≡ after → order u t ≡ before → order s u ≡ after
-order-after = after-all order state-orders
-
 pub states-sort : Sorts order plus
 unfolding order
 states-sort =

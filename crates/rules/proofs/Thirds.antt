@@ -20,7 +20,7 @@ use borrow.Author.Tests.{le-ltb, eq-eqb, ne-eqb, ltb-false, leb-true, leb-false}
 use Rattle.rules.specs.Contents.{places, bit, heldBelow, held, size, shared}
 use Rattle.rules.specs.Ordered.{Order, before, same, after, isBefore, inserted, insert, insertAll, remove, best}
 use Rattle.rules.specs.Table.{State, state, unitsOf, order, plus, listing, noState, stateAt, Work}
-use Rattle.rules.specs.Fold.{fewer, sharing, apart, closer, meet, fold, foldsOf, folded}
+use Rattle.rules.specs.Fold.{fewer, sharing, apart, closer, meet, fold, foldsOf, folded, states}
 use Rattle.rules.specs.AnyTable.{add as addAny, choice as choiceAny, foldAt as foldAtAny, fold as foldAny, folded as foldedAny}
 use Rattle.rules.specs.Shape.{Every, Present}
 use Rattle.rules.specs.Units.{more}
@@ -32,7 +32,7 @@ use Rattle.rules.proofs.Listings.{every-add, shaped-plus}
 use Rattle.rules.proofs.Filling.{fullest-same}
 use Rattle.rules.proofs.Ordered.{in-order-remove, turned, state-orders, order-same}
 use Rattle.rules.proofs.Table.{states-lawful, Rising}
-use Rattle.rules.proofs.Fold.{rising-fold}
+use Rattle.rules.proofs.AnyTable.{rising-fold}
 use Rattle.rules.proofs.Partners.{Best, past, past-other, past-within, others-at, partner-found, in-order-at, before-says}
 
 -- what the two share, s shares with it too
@@ -199,7 +199,7 @@ module _ (F : Filled) (front : F .front < 256 ^ 8) (back : F .back < 256 ^ 8) wh
     unfolding foldAny foldAtAny choiceAny
     fold-even =
         record {
-          rises = rising-fold (record { fewest = i; partner = k }) w (even .rises);
+          rises = rising-fold states states-lawful (record { fewest = i; partner = k }) w (even .rises);
           each =
               every-add listing (Present listing Filling) (shaped-plus listing states-lawful Filling (λ x u h. h)) (become ∷ []) (remove k others)
               ((λ n. (fills, pos-of-ne-zero n)), tt)

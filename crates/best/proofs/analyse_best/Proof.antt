@@ -3,9 +3,10 @@ use mathlib.Core.Path.{sym, _∙_}
 use native.Mathlib.Omega.{arith}
 use borrow.Author.Needs.{needs}
 use denote.Ref.{now}
+use Rattle.tables.proofs.Inputs.{checked-without}
 use Rattle.words.specs.BestTables.{tableOf}
 use Rattle.best.specs.Call.{handed}
-use Rattle.best.proofs.Calls.{best-checked, checked-without, leaves-refused, leaves-finished, last-table, finished-fits}
+use Rattle.best.proofs.Calls.{best-checked, leaves-refused, leaves-finished, last-table, finished-fits}
 use Rattle.best.proofs.analyse_best.Statement.{statement}
 use Rattle.best.proofs.analyse_best.Tie as tie
 
@@ -13,7 +14,7 @@ work-nodes-requires : tie.Need-work-nodes-requires
 work-nodes-requires c κs =
     let a = c .before .before .before .before .before .before .before .before .before .before .args in
     let ok = best-checked _ (sym (c .before .enum-told .given .1) ∙ c .before .before .before .judge-best .ensures) in
-    (omega (arith, ok .working-room), checked-without (a .sets) (a .ways) (a .revision) (a .limit) (now (a .tracked)) (now (a .runs)) (now (a .accesses)) (now (a .edges)) (now (a .result)) (now (a .work)) ok)
+    (omega (arith, ok .working-room), checked-without _ (a .limit) (now (a .tracked)) (now (a .runs)) (now (a .accesses)) (now (a .edges)) _ _ ok)
 
 sub-hand-over : tie.Need-sub-hand-over
 sub-hand-over c = omega (arith, best-checked _ (sym (c .before .before .before .before .before .before .enum-told .given .1) ∙ c .before .before .before .before .before .before .before .before .judge-best .ensures) .some-nodes)

@@ -3,6 +3,7 @@ use mathlib.Core.Path.{sym, ap, _∙_}
 use native.Mathlib.Omega.{arith}
 use denote.Ref.{now}
 use lib.ListN.{length}
+use Rattle.tables.proofs.Inputs.{checked-without}
 use Rattle.rules.specs.AnyTable.{Entries, noPairings}
 use Rattle.rules.specs.Input.{inputOf}
 use Rattle.rules.specs.Graph.{workedBy}
@@ -10,7 +11,7 @@ use Rattle.rules.proofs.Refusals.{checked}
 use Rattle.rules.proofs.Entries.{no-entries}
 use Rattle.words.specs.Tables.{tableOf}
 use Rattle.estimate.specs.Call.{handed}
-use Rattle.estimate.proofs.Calls.{no-form, checked-without, leaves-refused, leaves-finished, last-table, last-aside, finished-fits}
+use Rattle.estimate.proofs.Calls.{no-form, leaves-refused, leaves-finished, last-table, last-aside, finished-fits}
 use borrow.Author.Needs.{needs}
 use Rattle.estimate.proofs.analyse.Statement.{statement}
 use Rattle.estimate.proofs.analyse.Tie as tie
@@ -18,7 +19,7 @@ use Rattle.estimate.proofs.analyse.Tie as tie
 work-nodes-requires : tie.Need-work-nodes-requires
 work-nodes-requires c κs = let a = c .before .before .before .before .before .before .before .before .before .before .before .before .args in
     let ok = checked _ (sym (c .before .before .before .enum-told .given .1) ∙ c .before .before .before .before .before .judge .ensures) in
-    (omega (arith, ok .working-room), checked-without (a .cache) (a .limit) (now (a .tracked)) (now (a .runs)) (now (a .accesses)) (now (a .edges)) (now (a .result)) (now (a .work)) ok, no-form)
+    (omega (arith, ok .working-room), checked-without (a .cache) (a .limit) (now (a .tracked)) (now (a .runs)) (now (a .accesses)) (now (a .edges)) _ _ ok, no-form)
 
 sub-hand-over : tie.Need-sub-hand-over
 sub-hand-over c = omega (arith, checked _ (sym (c .before .before .before .before .before .before .before .before .enum-told .given .1) ∙ c .before .before .before .before .before .before .before .before .before .before .judge .ensures) .some-nodes)

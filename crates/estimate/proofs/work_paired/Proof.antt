@@ -2,11 +2,12 @@
 use mathlib.Core.Path.{_∙_}
 use native.Mathlib.Omega.{arith}
 use denote.Ref.{now}
+use Rattle.tables.proofs.Inputs.{checked-without}
 use Rattle.rules.specs.Entries.{entryOf}
 use Rattle.rules.proofs.Refusals.{checked}
 use Rattle.words.specs.Tables.{tableOf}
 use Rattle.estimate.specs.Call.{handed}
-use Rattle.estimate.proofs.Calls.{checked-without, form-of, formed-so, unformed, fit-so, leaves-unfit, leaves-paired, last-table, last-aside, finished-fits}
+use Rattle.estimate.proofs.Calls.{form-of, formed-so, unformed, fit-so, leaves-unfit, leaves-paired, last-table, last-aside, finished-fits}
 use borrow.Author.Tests.{not-true, not-false}
 use borrow.Author.Needs.{needs}
 use Rattle.estimate.proofs.work_paired.Statement.{statement}
@@ -21,7 +22,7 @@ returns c = let a = c .before .before .before .before .before .before .before .b
 work-nodes-requires : tie.Need-work-nodes-requires
 work-nodes-requires c κs = let a = c .before .before .before .before .before .before .before .before .before .before .before .before .args in
     let ok = checked _ (c .before .before .before .before .before .before .before .before .before .before .before .before .pre) in
-    (omega (arith, ok .working-room), checked-without (a .cache) (a .limit) (now (a .tracked)) (now (a .runs)) (now (a .accesses)) (now (a .edges)) (now (a .result)) (now (a .work)) ok, formed-so _ _ _ _ (c .before .before .in-form .ensures) (not-false _ (c .before .if1 .left)))
+    (omega (arith, ok .working-room), checked-without (a .cache) (a .limit) (now (a .tracked)) (now (a .runs)) (now (a .accesses)) (now (a .edges)) _ _ ok, formed-so _ _ _ _ (c .before .before .in-form .ensures) (not-false _ (c .before .if1 .left)))
 
 returns-2 : tie.Need-returns-2
 returns-2 c = let a = c .before .before .before .before .before .before .before .before .before .before .before .before .before .before .before .before .before .before .before .before .before .args in

@@ -8,7 +8,10 @@ use Rattle.rules.specs.Contents.{shared}
 use Rattle.rules.proofs.Splitting.{split-part, split-rest}
 use Rattle.words.specs.BestTables.{tableOf}
 use Rattle.words.proofs.BestTables.{fits-table}
-use Rattle.best.proofs.Following.{shares-fit, shares-more-fit, lost-count, kept-count, miss-put, added-rising}
+use Rattle.rules.specs.Best.{listing}
+use Rattle.rules.proofs.Best.{best-lawful}
+use Rattle.tables.proofs.Following.{shares-fit, lost-count, added-rising}
+use Rattle.best.proofs.Following.{shares-more-fit, kept-count, miss-put}
 use borrow.Author.Needs.{needs}
 use Rattle.best.proofs.access.miss.Statement.{statement}
 use Rattle.best.proofs.access.miss.Tie as tie
@@ -42,8 +45,8 @@ add-requires c κs =
     let d = c .before .before .before .before .before .before .before .before .before .before .before .before .before .before .before .before .before .before in
     let a = d .args in
     let lost = c .before .before .before .before .before .before .before .before .before .lose-each in
-    let more = lost-count (a .x) (a .s) _ (a .ways) _ (a .n) (tableOf (now (a .words))) (fits-table (now (a .words)) (a .n) (omega (arith, d .pre .3))) _ _ (lost .ensures) in
-    (omega (arith, more, d .pre .1 .3, d .pre .2, d .pre .3, lost .kept .0), added-rising _ _ _ _ _ (lost .ensures) (d .pre .4))
+    let more = lost-count listing _ _ (a .n) _ (tableOf (now (a .words))) _ (fits-table (now (a .words)) (a .n) (omega (arith, d .pre .3))) (lost .ensures) in
+    (omega (arith, more, d .pre .1 .3, d .pre .2, d .pre .3, lost .kept .0), added-rising listing _ _ _ _ _ (lost .ensures) best-lawful (d .pre .4))
 
 opened-requires : tie.Need-opened-requires
 opened-requires c κs = c .before .before .before .before .before .before .before .before .before .before .before .before .before .before .before .before .before .before .before .before .before .before .pre .1 .0
@@ -57,7 +60,7 @@ add-requires-2 c κs =
     let kept = c .before .before .before .before .add in
     let more = kept-count (a .x) (a .s) _ (a .ways) _ (a .n) (tableOf (now (a .words))) (fits-table (now (a .words)) (a .n) (omega (arith, d .pre .3))) _ _ _ _ _ _ _ _ _
     (d .pre .1 .3) (d .pre .2) (c .before .before .before .before .before .before .before .before .before .before .before .size-of .ensures) (c .before .before .before .before .before .before .before .before .before .before .units-if .ensures) (c .before .before .before .before .before .missed .ensures) (lost .ensures) (kept .ensures) in
-    (omega (arith, more, d .pre .3, lost .kept .0, kept .kept .0), added-rising _ _ _ _ _ (kept .ensures) (added-rising _ _ _ _ _ (lost .ensures) (d .pre .4)))
+    (omega (arith, more, d .pre .3, lost .kept .0, kept .kept .0), added-rising listing _ _ _ _ _ (kept .ensures) best-lawful (added-rising listing _ _ _ _ _ (lost .ensures) best-lawful (d .pre .4)))
 
 same-length : tie.Need-same-length
 same-length c = c .before .before .add2 .kept .0 ∙ c .before .before .before .before .before .before .before .add .kept .0 ∙ c .before .before .before .before .before .before .before .before .before .before .before .before .before .before .before .before .before .lose-each .kept .0

@@ -9,7 +9,9 @@ use borrow.Author.Needs.{needs}
 use Rattle.rules.specs.Ordered.{remove}
 use Rattle.words.specs.BestTables.{tableOf}
 use Rattle.words.proofs.BestTables.{fits-table}
-use Rattle.best.proofs.Folding.{other-within, Fewest, fewest-start, fewest-less, fewest-more, fewest-end, Nearest, partner-start, partner-closer, partner-other, choice-found}
+use Rattle.rules.specs.Best.{kind}
+use Rattle.tables.proofs.Folding.{other-within, Fewest, fewest-start, fewest-less, fewest-more, fewest-end}
+use Rattle.best.proofs.Folding.{Nearest, partner-start, partner-closer, partner-other, choice-found}
 use Rattle.best.proofs.fold.choose.Statement.{statement}
 use Rattle.best.proofs.fold.choose.Tie as tie
 
@@ -21,14 +23,14 @@ abbrev μ-loop : tie.MeasureT-loop
 μ-loop words n fewest i s partner₀ near₀ j₀ partner near j = n - j
 
 abbrev Inv-search : tie.InvT-search
-Inv-search words n fewest₀ units₀ i₀ fewest units i = (i ≤ n) × (fewest < i) × Fewest (take n (tableOf words)) fewest (units .0) i
+Inv-search words n fewest₀ units₀ i₀ fewest units i = (i ≤ n) × (fewest < i) × Fewest kind (take n (tableOf words)) fewest (units .0) i
 
 abbrev μ-search : tie.MeasureT-search
 μ-search words n fewest₀ units₀ i₀ fewest units i = n - i
 
 search-holds : tie.Need-search-holds Inv-loop μ-loop Inv-search μ-search
 search-holds c = let a = c .before .before .before .args in
-    (search needs, search needs, fewest-start (tableOf (now (a .words))) (a .n) (fits-table (now (a .words)) (a .n) (omega arith)) _ (omega arith) (c .before .load .ensures))
+    (search needs, search needs, fewest-start kind (tableOf (now (a .words))) (a .n) (fits-table (now (a .words)) (a .n) (omega arith)) _ (omega arith) (c .before .load .ensures))
 
 search-again : tie.Need-search-again Inv-loop μ-loop Inv-search μ-search
 search-again c =
@@ -42,8 +44,8 @@ search-again c =
       search needs,
       up,
       ⊎-elim
-          (λ w. rw (w .1, w .2) (fewest-less t (a .n) room _ _ _ _ more (x .load2 .ensures) (l .search .inv .2) (w .0 .taken)))
-          (λ w. rw (w .1, w .2) (fewest-more t (a .n) room _ _ _ _ more (x .load2 .ensures) (l .search .inv .2) (w .0 .left)))
+          (λ w. rw (w .1, w .2) (fewest-less kind t (a .n) room _ _ _ _ more (x .load2 .ensures) (l .search .inv .2) (w .0 .taken)))
+          (λ w. rw (w .1, w .2) (fewest-more kind t (a .n) room _ _ _ _ more (x .load2 .ensures) (l .search .inv .2) (w .0 .left)))
           (c .if2 .came),
     )
 
@@ -104,7 +106,7 @@ returns c =
     let t = tableOf (now (a .words)) in
     let room : a .n ≤ length t = fits-table (now (a .words)) (a .n) (omega arith) in
     choice-found t (a .n) room (b .search .fewest) (omega arith) _ (l .loop .partner) _ _ (l .before .before .before .before .load3 .ensures)
-    (fewest-end t (a .n) room _ _ _ (omega arith) (b .search .inv .2)) (omega arith) (l .loop .inv .1)
+    (fewest-end kind t (a .n) room _ _ _ (omega arith) (b .search .inv .2)) (omega arith) (l .loop .inv .1)
 
 pub choose-spec : {M : Type 1} → statement M
 choose-spec =

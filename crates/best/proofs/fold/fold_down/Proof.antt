@@ -6,11 +6,12 @@ use Prim.Native.Nat.{_≤_}
 use native.Mathlib.Omega.{arith}
 use lib.ListN.{length, take}
 use borrow.Author.Needs.{needs}
-use Rattle.best.specs.Tables.{rising, workOf}
-use Rattle.best.specs.Tables.{folded}
+use Rattle.best.specs.Tables.{rising, workOf, folded}
 use Rattle.words.specs.BestTables.{tableOf}
 use Rattle.words.proofs.BestTables.{fits-table}
-use Rattle.best.proofs.Folding.{folding-less, folding-rises, folding-turn, folding-end}
+use Rattle.rules.specs.Best.{kind}
+use Rattle.rules.proofs.Best.{best-lawful}
+use Rattle.tables.proofs.Folding.{folding-less, folding-rises, folding-turn, folding-end}
 use Rattle.best.proofs.fold.fold_down.Statement.{statement}
 use Rattle.best.proofs.fold.fold_down.Tie as tie
 
@@ -32,7 +33,7 @@ fold-once-requires c κs = (search needs, search needs, c .before .before .loop 
 
 loop-less : tie.Need-loop-less Inv-loop μ-loop
 loop-less c =
-    folding-less _ _ _ _ _ (fits-table _ _ (omega arith)) (omega arith) (c .before .before .before .before .loop-test .taken) (c .before .before .fold-once .ensures)
+    folding-less kind _ _ _ _ _ _ _ (fits-table _ _ (omega arith)) (omega arith) (c .before .before .before .before .loop-test .taken) (c .before .before .fold-once .ensures)
 
 loop-again : tie.Need-loop-again Inv-loop μ-loop
 loop-again c =
@@ -42,13 +43,13 @@ loop-again c =
     let less = loop-less c in (
       omega (arith, less),
       search needs,
-      folding-rises _ _ _ _ _ (fits-table _ _ (omega arith)) (omega arith) (g .loop-test .taken) h (l .inv .2),
-      folding-turn _ _ _ _ _ (fits-table _ _ (omega arith)) (omega arith) (g .loop-test .taken) h _ (l .inv .3),
+      folding-rises kind _ _ _ _ _ _ _ (fits-table _ _ (omega arith)) (omega arith) (g .loop-test .taken) h best-lawful (l .inv .2),
+      folding-turn kind _ _ _ _ _ _ _ (fits-table _ _ (omega arith)) (omega arith) (g .loop-test .taken) h _ (l .inv .3),
     )
 
 returns : tie.Need-returns Inv-loop μ-loop
 returns c = let l = c .before .loop in
-    folding-end _ _ _ (fits-table _ _ (omega arith)) (c .loop-test .left) _ (l .inv .3)
+    folding-end kind _ _ _ _ (fits-table _ _ (omega arith)) (c .loop-test .left) _ (l .inv .3)
 
 pub fold-down-spec : {M : Type 1} → statement M
 fold-down-spec =

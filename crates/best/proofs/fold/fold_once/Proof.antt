@@ -8,7 +8,9 @@ use lib.Seq.{length-take-le}
 use borrow.Author.Needs.{needs}
 use Rattle.words.specs.BestTables.{tableOf}
 use Rattle.words.proofs.BestTables.{fits-table}
-use Rattle.best.proofs.Folding.{fewest-within, partner-within, rising-left, fold-stands}
+use Rattle.rules.specs.Best.{kind}
+use Rattle.tables.proofs.Folding.{fewest-within, partner-within}
+use Rattle.best.proofs.Folding.{rising-left, fold-stands}
 use Rattle.best.proofs.fold.fold_once.Statement.{statement}
 use Rattle.best.proofs.fold.fold_once.Tie as tie
 
@@ -17,7 +19,7 @@ pull-requires c κs =
     let a = c .before .before .before .before .args in
     let t = tableOf (now (a .words)) in
     let room : a .n ≤ length t = fits-table (now (a .words)) (a .n) (omega arith) in
-    (fewest-within (take (a .n) t) (a .n) (length-take-le (a .n) t room) (omega arith) _ (c .before .choose .ensures), search needs)
+    (fewest-within kind (take (a .n) t) (a .n) (length-take-le (a .n) t room) (omega arith) _ (c .before .choose .ensures), search needs)
 
 pull-requires-2 : tie.Need-pull-requires-2
 pull-requires-2 c κs =
@@ -25,7 +27,7 @@ pull-requires-2 c κs =
     let a = p .before .before .before .args in
     let t = tableOf (now (a .words)) in
     let room : a .n ≤ length t = fits-table (now (a .words)) (a .n) (omega arith) in
-    (partner-within (take (a .n) t) (a .n) (length-take-le (a .n) t room) (omega arith) _ (p .choose .ensures), search needs)
+    (partner-within kind (take (a .n) t) (a .n) (length-take-le (a .n) t room) (omega arith) _ (p .choose .ensures), search needs)
 
 sub-add : tie.Need-sub-add
 sub-add c =

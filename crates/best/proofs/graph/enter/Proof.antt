@@ -1,15 +1,19 @@
 -- `enter` stores the start, or copies the first predecessor's table and has the others joined to it.
-use mathlib.Core.Path.{refl, sym, _∙_}
+use mathlib.Core.Path.{sym, _∙_}
 use mathlib.Core.Logic.{inr}
 use Prim.Native.Nat.{_+_}
 use native.Mathlib.Omega.{arith}
 use denote.Ref.{now}
 use lib.ListN.{getD}
 use Rattle.words.specs.BestTables.{tableOf}
-use Rattle.best.specs.Edges.{cameFrom}
+use Rattle.tables.specs.Edges.{cameFrom}
 use Rattle.words.proofs.BestTables.{fits-table}
-use Rattle.best.proofs.Nodes.{counted-few}
-use Rattle.best.proofs.Graphs.{into-here, into-none, lower-here, enter-none, enter-some}
+use Rattle.rules.specs.Best.{listing, kind}
+use Rattle.tables.proofs.Nodes.{counted-few}
+use Rattle.tables.proofs.Edges.{into-here, into-none, lower-here, found}
+use Rattle.rules.specs.AnyTable.{noPairings}
+use Rattle.best.specs.Tables.{begins}
+use Rattle.tables.proofs.Settling.{enter-none, enter-some}
 use borrow.Author.Needs.{needs}
 use Rattle.best.proofs.graph.enter.Statement.{statement}
 use Rattle.best.proofs.graph.enter.Tie as tie
@@ -18,8 +22,9 @@ returns : tie.Need-returns
 returns c = let b = c .before .before .before .before .before .before .before .before in
     let a = b .args in
     let n = c .before .before .before .before .before .next-edge in
+    let f = found _ _ _ _ (n .ensures) in
     let ns = now (a .edges) in
-    enter-none (a .limit) (a .to) (tableOf (now (a .work))) (cameFrom ns (a .to) 0) _ (sym (n .ensures .3) ∙ into-none ns (a .to) (n .result) (omega arith))
+    enter-none kind (a .to) 0 (tableOf (now (a .work))) (a .limit) noPairings begins (cameFrom ns (a .to) 0) _ (sym (f .3) ∙ into-none ns (a .to) (n .result) (omega arith))
     (fits-table (now (a .work)) 5184 (b .pre .0)) (b .pre .1)
     (c .before .before .store .ensures)
 
@@ -32,34 +37,39 @@ mul-from-2 c = omega (arith, c .shared-slice-known2 .given (c .before .before .n
 count-requires : tie.Need-count-requires
 count-requires c κs = let a = c .before .before .before .before .before .before .args in
     let n = c .before .before .before .next-edge in
+    let f = found _ _ _ _ (n .ensures) in
     let p = c .before .before .before .before .before .before .pre in
-    let low = lower-here (now (a .edges)) (a .to) (n .result) (n .ensures .2) (omega arith) (rw (n .ensures .3) (p .4)) in
+    let low = lower-here (now (a .edges)) (a .to) (n .result) (f .2) (omega arith) (rw (f .3) (p .4)) in
     omega (arith, low .0, p .0, p .1)
 
 copy-requires : tie.Need-copy-requires
 copy-requires c κs = let a = c .before .before .before .before .before .before .before .before .args in
     let n = c .before .before .before .before .before .next-edge in
+    let f = found _ _ _ _ (n .ensures) in
     let p = c .before .before .before .before .before .before .before .before .pre in
-    let low = lower-here (now (a .edges)) (a .to) (n .result) (n .ensures .2) (omega arith) (rw (n .ensures .3) (p .4)) in
-    let few = counted-few (getD (now (a .edges)) (n .result) 0) (c .before .count .result) (tableOf (now (a .work))) (c .before .count .ensures) in
+    let low = lower-here (now (a .edges)) (a .to) (n .result) (f .2) (omega arith) (rw (f .3) (p .4)) in
+    let few = counted-few listing (getD (now (a .edges)) (n .result) 0) (c .before .count .result) (tableOf (now (a .work))) (c .before .count .ensures) in
     (omega (arith, few, low .0, p .0, p .1), omega (arith, few, p .0, p .1), inr (omega (arith, few, low .0)))
 
 join-others-requires : tie.Need-join-others-requires
 join-others-requires c κs = let a = c .before .before .before .before .before .before .before .before .before .before .before .before .args in
     let n = c .before .before .before .before .before .before .before .before .before .next-edge in
+    let f = found _ _ _ _ (n .ensures) in
     let p = c .before .before .before .before .before .before .before .before .before .before .before .before .pre in
-    let low = lower-here (now (a .edges)) (a .to) (n .result) (n .ensures .2) (omega arith) (rw (n .ensures .3) (p .4)) in
-    (search needs, p .1, counted-few (getD (now (a .edges)) (n .result) 0) (c .before .before .before .before .before .count .result) (tableOf (now (a .work))) (c .before .before .before .before .before .count .ensures), omega (arith, n .ensures .2 (omega arith) .0), p .2, p .3, low .1)
+    let low = lower-here (now (a .edges)) (a .to) (n .result) (f .2) (omega arith) (rw (f .3) (p .4)) in
+    (search needs, p .1, counted-few listing (getD (now (a .edges)) (n .result) 0) (c .before .before .before .before .before .count .result) (tableOf (now (a .work))) (c .before .before .before .before .before .count .ensures), omega (arith, f .2 (omega arith) .0), p .2, p .3, low .1)
 
 returns-2 : tie.Need-returns-2
 returns-2 c = let a = c .before .before .before .before .before .before .before .before .before .before .before .before .before .before .before .args in
     let n = c .before .before .before .before .before .before .before .before .before .before .before .before .next-edge in
+    let f = found _ _ _ _ (n .ensures) in
     let p = c .before .before .before .before .before .before .before .before .before .before .before .before .before .before .before .pre in
     let ns = now (a .edges) in
-    let here = n .ensures .2 (omega arith) in
-    let low = lower-here ns (a .to) (n .result) (n .ensures .2) (omega arith) (rw (n .ensures .3) (p .4)) in
-    enter-some (a .limit) (a .to) (tableOf (now (a .work))) (cameFrom ns (a .to) 0) (cameFrom ns (a .to) (n .result + 2)) (getD ns (n .result) 0) (c .before .before .before .before .before .before .before .before .count .result) _ (now (a .work)) (c .before .before .before .before .before .before .copy .last .0) _
-    refl (sym (n .ensures .3) ∙ into-here ns (a .to) (n .result) (here .0) (here .1)) (low .0) (p .1) (p .0) (c .before .before .before .before .before .before .before .before .count .ensures) (c .before .before .before .before .before .before .copy .ensures) (c .before .before .join-others .ensures)
+    let here = f .2 (omega arith) in
+    let low = lower-here ns (a .to) (n .result) (f .2) (omega arith) (rw (f .3) (p .4)) in
+    enter-some kind (a .to) 0 (tableOf (now (a .work))) (getD ns (n .result) 0) (c .before .before .before .before .before .before .before .before .count .result) (tableOf (c .before .before .before .before .before .before .copy .last .0)) (low .0) (p .1) (fits-table (now (a .work)) 5184 (p .0))
+    (c .before .before .before .before .before .before .before .before .count .ensures) (c .before .before .before .before .before .before .copy .ensures) (a .limit) noPairings begins (cameFrom ns (a .to) 0) (cameFrom ns (a .to) (n .result + 2)) _ 0 _
+    (sym (f .3) ∙ into-here ns (a .to) (n .result) (here .0) (here .1)) (c .before .before .join-others .ensures)
 
 pub enter-spec : {M : Type 1} → statement M
 enter-spec =

@@ -11,7 +11,8 @@ use Rattle.best.specs.Tables.{worked}
 use Rattle.rules.proofs.Nodes.{offset-next, run-within, run-long}
 use Rattle.words.specs.BestTables.{tableOf}
 use Rattle.best.specs.Rooms.{workedIn}
-use Rattle.best.proofs.Graphs.{offset-start, nodes-start, run-part, node-startable, nodes-next}
+use Rattle.tables.proofs.Inputs.{offset-start, run-part}
+use Rattle.best.proofs.Graphs.{nodes-start, node-startable, nodes-next}
 use borrow.Author.Needs.{needs}
 use Rattle.best.proofs.graph.work_nodes.Statement.{statement}
 use Rattle.best.proofs.graph.work_nodes.Tie as tie
@@ -57,7 +58,7 @@ work-node-requires c κs =
     let l = c .before .before .before .before .loop in
     let ok = s .pre .1 in
     let here = c .before .before .before .loop-test .taken in
-    let part = run-part (given s) ok (l .j) here (l .from) (l .inv .2) in (
+    let part = run-part (given s) (l .j) (l .from) (l .inv .2) in (
       rw part (omega (arith, run-long (given s) ok (l .j) here, run-within (given s) ok (l .j) here, ok .few-accesses)),
       node-startable (given s) ok (l .j) here _ (l .work) (l .inv .3) (omega (arith, l .inv .1, s .pre .0)) (ap length part),
     )
@@ -70,7 +71,7 @@ loop-again c =
     let ok = s .pre .1 in
     let here = c .before .before .before .before .before .before .loop-test .taken in
     let g = c .before .before .work-node in
-    let part = run-part i ok (l .j) here (l .from) (l .inv .2) in (
+    let part = run-part i (l .j) (l .from) (l .inv .2) in (
       search needs,
       search needs,
       rw (add-one (l .j)) (omega (arith, l .inv .2, offset-next (now (s .args .runs)) (l .j) here)),

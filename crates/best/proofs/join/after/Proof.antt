@@ -3,17 +3,19 @@ use denote.Ref.{now}
 use lib.ListN.{take, drop}
 use borrow.Author.Needs.{needs}
 use Rattle.words.specs.BestTables.{tableOf}
-use Rattle.best.proofs.Pairing.{after-all, after-some}
+use Rattle.rules.specs.Best.{listing}
+use Rattle.best.specs.Pairing.{frontOf}
+use Rattle.tables.proofs.Pairing.{after-all, after-some}
 use Rattle.best.proofs.join.after.Statement.{statement}
 use Rattle.best.proofs.join.after.Tie as tie
 
 returns : tie.Need-returns
 returns c = let a = c .before .before .before .before .before .before .before .before .before .args in
-    after-all (take (a .m) (drop (a .from) (tableOf (now (a .words))))) (a .used .0) (a .front) _ (c .before .if1 .taken) (c .front-at .ensures)
+    after-all listing (take (a .m) (drop (a .from) (tableOf (now (a .words))))) (a .used .0) (frontOf (a .front)) _ (c .before .if1 .taken) (c .front-at .ensures)
 
 returns-2 : tie.Need-returns-2
 returns-2 c = let a = c .before .before .before .before .before .before .before .before .before .before .args in
-    after-some (take (a .m) (drop (a .from) (tableOf (now (a .words))))) (a .used .0) (a .front) (c .before .before .if1 .left)
+    after-some listing (take (a .m) (drop (a .from) (tableOf (now (a .words))))) (a .used .0) (frontOf (a .front)) (c .before .before .if1 .left)
 
 pub after-spec : {M : Type 1} → statement M
 after-spec =

@@ -1,56 +1,59 @@
 -- `pair_up` takes the walk's pairs one by one into the scratch. The invariant of its loop: the slots are as they were, and what the
 -- scratch holds is, with the pairs that are still to come, the whole join. The measure is how many states are left.
-use Rattle.best.proofs.Pairing.{statesLeft, statesAt, Underway, underway-none, underway-left, underway-right, room-for-one, left-stays, right-stays, underway-falls, underway-more}
+use Rattle.rules.specs.Best.{listing}
+use Rattle.words.specs.BestTables.{tableOf}
+use Rattle.tables.proofs.Pairing.{best-in-words, statesLeft, statesAt, Underway, underway-none, underway-left, underway-right, room-for-one, left-stays, right-stays, underway-falls, underway-more}
+use Rattle.best.specs.Pairing.{frontOf}
 use borrow.Author.Needs.{needs}
 use Rattle.best.proofs.join.pair_up.Statement.{statement}
 use Rattle.best.proofs.join.pair_up.Tie as tie
 
 abbrev Inv-loop : tie.InvT-loop
-Inv-loop work₀ left m right k n₀ a₀ b₀ work n a b = Underway left m right k work₀ work n a b
+Inv-loop work₀ left m right k n₀ a₀ b₀ work n a b = Underway best-in-words left m right k work₀ work n (frontOf a) (frontOf b)
 
 abbrev μ-loop : tie.MeasureT-loop
-μ-loop work₀ left m right k n₀ a₀ b₀ work n a b = statesLeft a b (statesAt left m work₀) (statesAt right k work₀)
+μ-loop work₀ left m right k n₀ a₀ b₀ work n a b = statesLeft listing (frontOf a) (frontOf b) (statesAt tableOf left m work₀) (statesAt tableOf right k work₀)
 
 loop-holds : tie.Need-loop-holds Inv-loop μ-loop
-loop-holds c = underway-none _ _ _ _ _ _ _ (c .before .before .front-at .ensures) (c .front-at2 .ensures)
+loop-holds c = underway-none best-in-words _ _ _ _ _ _ _ (c .before .before .front-at .ensures) (c .front-at2 .ensures)
 
 returns : tie.Need-returns Inv-loop μ-loop
-returns c = let l = c .before .before in underway-left (l .loop .inv) (l .before .before .before .before .before .before .pre) (c .if1 .taken)
+returns c = let l = c .before .before in underway-left best-in-words (l .loop .inv) (l .before .before .before .before .before .before .pre) (c .if1 .taken)
 
 returns-2 : tie.Need-returns-2 Inv-loop μ-loop
-returns-2 c = let l = c .before .before .before .before in underway-right (l .loop .inv) (l .before .before .before .before .before .before .pre) (c .if2 .taken)
+returns-2 c = let l = c .before .before .before .before in underway-right best-in-words (l .loop .inv) (l .before .before .before .before .before .before .pre) (c .if2 .taken)
 
 add-to-scratch-requires : tie.Need-add-to-scratch-requires Inv-loop μ-loop
 add-to-scratch-requires c κs = let j = c .before .before .before .before .before in
     let l = j .before .before .before .before in
-    room-for-one (l .loop .inv) (l .before .before .before .before .before .before .pre) (j .before .before .if1 .left) (j .if2 .left)
+    room-for-one best-in-words (l .loop .inv) (l .before .before .before .before .before .before .pre) (j .before .before .if1 .left) (j .if2 .left)
 
 after-requires : tie.Need-after-requires Inv-loop μ-loop
 after-requires c κs = let d = c .before .before .before in
     let j = d .before .before .before .before .before .before in
     let l = j .before .before .before .before in
-    left-stays (l .loop .inv) (l .before .before .before .before .before .before .pre) (j .before .before .if1 .left) (j .if2 .left)
+    left-stays best-in-words (l .loop .inv) (l .before .before .before .before .before .before .pre) (j .before .before .if1 .left) (j .if2 .left)
     _ _ _ (d .add-to-scratch .kept .0) (d .add-to-scratch .ensures) _ (d .before .before .before .smaller .ensures)
 
 after-requires-2 : tie.Need-after-requires-2 Inv-loop μ-loop
 after-requires-2 c κs = let d = c .before .before .before .before .before in
     let j = d .before .before .before .before .before .before in
     let l = j .before .before .before .before in
-    right-stays (l .loop .inv) (l .before .before .before .before .before .before .pre) (j .before .before .if1 .left) (j .if2 .left)
+    right-stays best-in-words (l .loop .inv) (l .before .before .before .before .before .before .pre) (j .before .before .if1 .left) (j .if2 .left)
     _ _ _ (d .add-to-scratch .kept .0) (d .add-to-scratch .ensures) _ (d .before .before .before .smaller .ensures)
 
 loop-less : tie.Need-loop-less Inv-loop μ-loop
 loop-less c = let d = c .before .before .before .before .before .before in
     let j = d .before .before .before .before .before .before in
     let l = j .before .before .before .before in
-    underway-falls (l .loop .inv) (l .before .before .before .before .before .before .pre) (j .before .before .if1 .left) (j .if2 .left)
+    underway-falls best-in-words (l .loop .inv) (l .before .before .before .before .before .before .pre) (j .before .before .if1 .left) (j .if2 .left)
     _ _ _ (d .add-to-scratch .kept .0) (d .add-to-scratch .ensures) _ (d .before .before .before .smaller .ensures) _ _ (c .before .before .after .ensures) (c .after2 .ensures)
 
 loop-again : tie.Need-loop-again Inv-loop μ-loop
 loop-again c = let d = c .before .before .before .before .before .before in
     let j = d .before .before .before .before .before .before in
     let l = j .before .before .before .before in
-    underway-more (l .loop .inv) (l .before .before .before .before .before .before .pre) (j .before .before .if1 .left) (j .if2 .left)
+    underway-more best-in-words (l .loop .inv) (l .before .before .before .before .before .before .pre) (j .before .before .if1 .left) (j .if2 .left)
     _ _ _ (d .add-to-scratch .kept .0) (d .add-to-scratch .ensures) _ (d .before .before .before .smaller .ensures) _ _ (c .before .before .after .ensures) (c .after2 .ensures)
     (d .before .pair .ensures)
 

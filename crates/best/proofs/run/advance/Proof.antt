@@ -1,20 +1,27 @@
 -- `advance` aims at the block, gathers what follows in the scratch, and settles it.
+use mathlib.Core.Path.{_≡_}
 use native.Mathlib.Omega.{arith}
 use denote.Ref.{now}
 use lib.ListN.{take, drop}
 use Rattle.words.specs.BestTables.{tableOf}
+use Rattle.rules.specs.declared.Last.the-variants.{Unknown as unknown}
+use Rattle.rules.specs.Contents.{targetOf}
 use Rattle.rules.specs.Shape.{Aimed}
 use Rattle.best.proofs.Settling.{workable, placed, aimed-so, gathered-fits, advanced}
+use Rattle.tables.proofs.Masks.{aimed-so as aim-so}
 use borrow.Author.Needs.{needs}
 use Rattle.best.proofs.run.advance.Statement.{statement}
 use Rattle.best.proofs.run.advance.Tie as tie
 
-aim-requires : tie.Need-aim-requires
-aim-requires c κs = let p = c .before .before .pre in (p .ranges .few-tracked, p .ranges .known-sets)
+-- what the access is after, and that it is after a block of the cache
+target : (c : tie.After-aim) → let a = c .before .before .before .args in c .aim .result ≡ targetOf (a .sets) (now (a .tracked)) unknown (a .block)
+target c =
+    let a = c .before .before .before .args in
+    let r = c .before .before .before .pre .ranges in
+    aim-so (a .sets) (now (a .tracked)) (r .few-tracked) (r .known-sets) unknown (a .block) _ (c .aim .ensures)
 
--- the access is after a block of the cache
 aims : (c : tie.After-aim) → Aimed (c .before .before .before .args .sets) (now (c .before .before .before .args .tracked)) (c .aim .result)
-aims c = let a = c .before .before .before .args in aimed-so _ _ (c .before .before .before .pre .ranges .known-sets) (a .block) _ (c .aim .ensures)
+aims c = let a = c .before .before .before .args in aimed-so _ _ (c .before .before .before .pre .ranges .known-sets) (a .block) _ (target c)
 
 gather-requires : tie.Need-gather-requires
 gather-requires c κs =
@@ -42,13 +49,13 @@ returns c =
     let a = c .before .before .before .before .before .before .before .before .before .before .before .args in
     let g = c .before .before .before .before .before .before .gather in
     let x = c .before .before .before .before .before .before .before .before .aim in
-    advanced (a .ways) (a .limit) (x .result) _ (take (a .n) (drop (a .at) (tableOf (now (a .work))))) (a .at) _ _ _ _ _ (x .ensures) (omega (arith, c .before .before .before .before .before .before .before .before .before .before .before .pre .slot)) (g .ensures) (c .before .before .settle .ensures)
+    advanced (a .ways) (a .limit) (x .result) _ (take (a .n) (drop (a .at) (tableOf (now (a .work))))) (a .at) _ _ _ _ _ (target (c .before .before .before .before .before .before .before .before)) (omega (arith, c .before .before .before .before .before .before .before .before .before .before .before .pre .slot)) (g .ensures) (c .before .before .settle .ensures)
 
 pub advance-spec : {M : Type 1} → statement M
 advance-spec =
     tie.close
     (tie.spec
-    aim-requires
+    (λ c κs. search needs)
     gather-requires
     settle-requires
     (λ c. search needs)

@@ -4,7 +4,9 @@ use native.Mathlib.Omega.{arith}
 use denote.Ref.{now}
 use lib.ListN.{drop, length-take}
 use Rattle.words.specs.BestTables.{tableOf}
-use Rattle.best.proofs.Settling.{joined-fits, settled-from}
+use Rattle.rules.specs.Best.{kind}
+use Rattle.tables.proofs.Settling.{settled-from}
+use Rattle.best.proofs.Settling.{joined-fits}
 use borrow.Author.Needs.{needs}
 use Rattle.best.proofs.run.join_to.Statement.{statement}
 use Rattle.best.proofs.run.join_to.Tie as tie
@@ -20,7 +22,7 @@ returns : tie.Need-returns
 returns c = let a = c .before .before .before .before .before .before .before .before .before .args in
     let p = c .before .before .before .before .before .before .before .before .before .pre in
     let g = c .before .before .before .before .before .before .pair-up .ensures in
-    settled-from (a .limit) _ _ _ (a .at) _ _ _ _ (g .table) refl (omega (arith, p .1)) (g .slots) (c .before .before .settle .ensures)
+    settled-from kind (a .limit) _ _ _ _ (a .at) _ _ _ _ _ (g .table) refl (omega (arith, p .1)) (g .slots) (c .before .before .settle .ensures)
 
 pub join-to-spec : {M : Type 1} → statement M
 join-to-spec =

@@ -8,7 +8,8 @@ use lib.ListN.{length, take}
 use Rattle.words.specs.BestTables.{tableOf}
 use native.Mathlib.Numerals.{add-one}
 use Rattle.best.specs.Working.{workAt, Ready}
-use Rattle.best.proofs.Settling.{Ran, ran-next, ran-stands, stands-work, ready-wider, ready-next}
+use Rattle.tables.proofs.Settling.{stands-work}
+use Rattle.best.proofs.Settling.{Ran, ran-next, ran-stands, ready-wider, ready-next}
 use borrow.Author.Needs.{needs}
 use Rattle.best.proofs.run.run.Statement.{statement}
 use Rattle.best.proofs.run.run.Tie as tie
@@ -42,7 +43,7 @@ loop-again c = let a = c .before .before .before .before .before .before .before
       search needs,
       ready-next (a .sets) (a .ways) t (a .limit) (4096 - (length (now (a .accesses)) - l .i)) next (a .at) _ _ _ (l .work) (g .last .0) (omega (arith, c .before .before .before .before .before .before .before .before .before .before .pre .0)) (g .kept .0) (l .inv .2) (g .ensures),
       g .ensures .before ∙ l .inv .3,
-      rw (add-one (l .i), stands-work _ _ _ _ _ (g .ensures)) (ran-next (a .ways) (a .sets) (a .limit) t (now (a .accesses)) (l .i) _ _ _ (omega arith) refl (l .inv .4)),
+      rw (add-one (l .i), stands-work _ _ _ _ _ _ (g .ensures)) (ran-next (a .ways) (a .sets) (a .limit) t (now (a .accesses)) (l .i) _ _ _ (omega arith) refl (l .inv .4)),
     )
 
 returns : tie.Need-returns Inv-loop μ-loop

@@ -6,7 +6,7 @@ use denote.Ref.{now}
 use Rattle.best.proofs.Laws.{length-folded}
 use Rattle.words.specs.BestTables.{tableOf}
 use Rattle.words.proofs.BestTables.{fits-table}
-use Rattle.best.proofs.Settling.{settled}
+use Rattle.tables.proofs.Settling.{settled}
 use borrow.Author.Needs.{needs}
 use Rattle.best.proofs.run.settle.Statement.{statement}
 use Rattle.best.proofs.run.settle.Tie as tie
@@ -24,7 +24,7 @@ returns : tie.Need-returns
 returns c = let b = c .before .before .before .before .before .before .before .before .before in
     let f = c .before .before .before .before .before .before .fold-scratch in
     let few : f .result ≤ b .args .limit = rw (f .ensures .stands .count) (length-folded (b .args .limit) _ (b .pre .3)) in
-    settled _ (b .args .at) _ (tableOf (now (b .args .work))) _ _ (b .pre .1) (omega (arith, few, b .pre .4)) (fits-table _ 5184 (omega (arith, f .kept .0, b .pre .0)))
+    settled _ (b .args .at) _ _ (tableOf (now (b .args .work))) _ _ (b .pre .1) (omega (arith, few, b .pre .4)) (fits-table _ 5184 (omega (arith, f .kept .0, b .pre .0)))
     (f .ensures .stands) (f .ensures .before) (c .before .before .copy .ensures)
 
 pub settle-spec : {M : Type 1} → statement M

@@ -8,7 +8,8 @@ use lib.Seq.{paste, paste-zero}
 use Rattle.best.specs.Tables.{noState}
 use Rattle.words.specs.BestTables.{tableOf}
 use Rattle.words.proofs.BestTables.{fits-table}
-use Rattle.best.proofs.Nodes.{seal-turn}
+use Rattle.rules.specs.Best.{listing}
+use Rattle.tables.proofs.Nodes.{seal-turn}
 use borrow.Author.Needs.{needs}
 use Rattle.best.proofs.slots.seal.Statement.{statement}
 use Rattle.best.proofs.slots.seal.Tie as tie
@@ -30,7 +31,7 @@ loop-again c = let b = c .before .before .before .before .before in
       search needs,
       search needs,
       search needs,
-      seal-turn (tableOf (now (a .work))) (a .at) (a .n) (b .loop .i) (fits-table (now (a .work)) (a .at + 64) (omega arith)) (omega arith) (omega arith) _ _ (b .loop .inv .3) (c .before .before .store .ensures),
+      seal-turn listing (tableOf (now (a .work))) (a .at) (a .n) (b .loop .i) (fits-table (now (a .work)) (a .at + 64) (omega arith)) (omega arith) (omega arith) _ _ (b .loop .inv .3) (c .before .before .store .ensures),
     )
 
 returns : tie.Need-returns Inv-loop μ-loop

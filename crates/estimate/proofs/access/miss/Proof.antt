@@ -9,7 +9,10 @@ use Rattle.rules.specs.Contents.{size}
 use Rattle.rules.proofs.Splitting.{split-part, split-rest}
 use Rattle.words.specs.Tables.{tableOf}
 use Rattle.words.proofs.Tables.{fits-table}
-use Rattle.estimate.proofs.Following.{added-rising, shares-fit, lost-count, kept-count, miss-put}
+use Rattle.rules.specs.Table.{listing}
+use Rattle.rules.proofs.Table.{states-lawful}
+use Rattle.tables.proofs.Following.{added-rising, shares-fit, lost-count}
+use Rattle.estimate.proofs.Following.{kept-count, miss-put}
 use borrow.Author.Needs.{needs}
 use Rattle.estimate.proofs.access.miss.Statement.{statement}
 use Rattle.estimate.proofs.access.miss.Tie as tie
@@ -33,8 +36,8 @@ add-requires c κs =
     let b = c .before .before .before .before .before .before .before .before .before .before .before .before .before .before .before in
     let a = b .args in
     let lost = c .before .before .before .before .before .before .lose-each in
-    let more = lost-count (a .x) (c .before .before .before .before .before .before .before .before .fuller .result) (c .before .before .before .before .before .before .before .before .before .at-risk .result) (a .ways) _ (a .n) (tableOf (now (a .words))) (fits-table (now (a .words)) (a .n) (omega (arith, b .pre .3))) _ _ (lost .ensures) in
-    (omega (arith, more, few (c .before .before .before .before .before .before .before .before .before), b .pre .2, b .pre .3, lost .kept .0), added-rising _ _ _ _ _ (lost .ensures) (b .pre .4))
+    let more = lost-count listing _ _ (a .n) _ (tableOf (now (a .words))) _ (fits-table (now (a .words)) (a .n) (omega (arith, b .pre .3))) (lost .ensures) in
+    (omega (arith, more, few (c .before .before .before .before .before .before .before .before .before), b .pre .2, b .pre .3, lost .kept .0), added-rising listing _ _ _ _ _ (lost .ensures) states-lawful (b .pre .4))
 
 missed-requires-2 : tie.Need-missed-requires-2
 missed-requires-2 c κs = (c .before .before .before .before .before .before .before .before .before .before .before .before .before .before .before .before .before .before .before .before .pre .0 .0, countable (c .before .before .before .before .before .before .before .before .before .before .before .before .before))
@@ -47,7 +50,7 @@ add-requires-2 c κs =
     let kept = c .before .before .before .before .before .add in
     let more = kept-count (a .x) (c .before .before .before .before .before .before .before .before .before .before .before .before .before .before .fuller .result) (c .before .before .before .before .before .before .before .before .before .before .before .before .before .before .before .at-risk .result) (a .ways) _ (a .n) (tableOf (now (a .words))) (fits-table (now (a .words)) (a .n) (omega (arith, b .pre .3))) _ _ _ _ _ _ _
     (few (c .before .before .before .before .before .before .before .before .before .before .before .before .before .before .before)) (c .before .before .before .before .before .before .before .before .before .size-of .ensures) (c .before .before .before .before .before .before .missed .ensures) (lost .ensures) (kept .ensures) in
-    (omega (arith, more, b .pre .2, b .pre .3, lost .kept .0, kept .kept .0), added-rising _ _ _ _ _ (kept .ensures) (added-rising _ _ _ _ _ (lost .ensures) (b .pre .4)))
+    (omega (arith, more, b .pre .2, b .pre .3, lost .kept .0, kept .kept .0), added-rising listing _ _ _ _ _ (kept .ensures) states-lawful (added-rising listing _ _ _ _ _ (lost .ensures) states-lawful (b .pre .4)))
 
 returns : tie.Need-returns
 returns c =

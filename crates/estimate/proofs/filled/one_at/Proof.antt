@@ -3,7 +3,7 @@ use mathlib.Core.Path.{_∙_}
 use Prim.Native.Nat.{_*_}
 use native.Mathlib.Omega.{arith}
 use borrow.Author.Needs.{needs}
-use Rattle.estimate.proofs.Masks.{one-shifted}
+use Rattle.tables.proofs.Masks.{one-shifted}
 use Rattle.estimate.proofs.Numbers.{byte-shift}
 use Rattle.estimate.proofs.filled.one_at.Statement.{statement}
 use Rattle.estimate.proofs.filled.one_at.Tie as tie

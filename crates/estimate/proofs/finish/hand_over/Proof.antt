@@ -2,29 +2,31 @@
 use native.Mathlib.Omega.{arith}
 use denote.Ref.{now}
 use Rattle.words.specs.Tables.{tableOf}
-use Rattle.estimate.proofs.Nodes.{counted-few}
-use Rattle.estimate.proofs.Handing.{table-long, handed-over}
+use Rattle.rules.specs.Table.{listing}
+use Rattle.words.proofs.Tables.{fits-table}
+use Rattle.tables.proofs.Nodes.{counted-few, table-long}
+use Rattle.estimate.proofs.Handing.{handed-over}
 use borrow.Author.Needs.{needs}
 use Rattle.estimate.proofs.finish.hand_over.Statement.{statement}
 use Rattle.estimate.proofs.finish.hand_over.Tie as tie
 
 mul-carry-3 : tie.Need-mul-carry-3
 mul-carry-3 c = let a = c .before .before .before .before .before .before .before .before .before .before .args in
-    omega (arith, counted-few (a .last) (c .before .before .before .before .before .before .count .result) (tableOf (now (a .work))) (c .before .before .before .before .before .before .count .ensures))
+    omega (arith, counted-few listing (a .last) (c .before .before .before .before .before .before .count .result) (tableOf (now (a .work))) (c .before .before .before .before .before .before .count .ensures))
 
 carry-requires : tie.Need-carry-requires
 carry-requires c κs = let a = c .before .before .before .before .before .before .before .before .before .before .args in
     let p = c .before .before .before .before .before .before .before .before .before .before .pre in
     let n = c .before .before .before .before .before .before .count in
-    let few = counted-few (a .last) (n .result) (tableOf (now (a .work))) (n .ensures) in
-    let long = table-long (a .last) (n .result) (now (a .work)) (p .0) (p .1) (n .ensures) in
+    let few = counted-few listing (a .last) (n .result) (tableOf (now (a .work))) (n .ensures) in
+    let long = table-long listing (a .last) (n .result) (tableOf (now (a .work))) (n .ensures) (omega (arith, p .0, fits-table (now (a .work)) 5184 (p .1))) in
     (omega (arith, long, p .2, c .before .before .before .before .clear .kept .0), omega (arith, few, p .0, p .1))
 
 returns : tie.Need-returns
 returns c = let a = c .before .before .before .before .before .before .before .before .before .before .before .before .before .before .before .before .before .args in
     let p = c .before .before .before .before .before .before .before .before .before .before .before .before .before .before .before .before .before .pre in
     let n = c .before .before .before .before .before .before .before .before .before .before .before .before .before .count in
-    let long = table-long (a .last) (n .result) (now (a .work)) (p .0) (p .1) (n .ensures) in (
+    let long = table-long listing (a .last) (n .result) (tableOf (now (a .work))) (n .ensures) (omega (arith, p .0, fits-table (now (a .work)) 5184 (p .1))) in (
       long,
       (
         handed-over (a .last) (n .result) (now (a .work)) (p .0) (p .1) (n .ensures) (now (a .result)) (c .before .before .before .before .before .before .before .before .before .before .before .clear .last .0) (c .before .before .before .before .before .before .carry .last .0) (omega (arith, long, p .2)) (c .before .before .before .before .before .before .before .before .before .before .before .clear .ensures) (c .before .before .before .before .before .before .carry .ensures),

@@ -7,10 +7,11 @@ use native.Mathlib.Omega.{arith}
 use lib.ListN.{length, take}
 use borrow.Author.Needs.{needs}
 use Rattle.rules.specs.Table.{rising}
-use Rattle.rules.specs.Fold.{folded}
+use Rattle.rules.specs.Fold.{folded, states}
 use Rattle.words.specs.Tables.{tableOf}
 use Rattle.words.proofs.Tables.{fits-table}
-use Rattle.estimate.proofs.Folding.{workOf, folding-less, folding-rises, folding-turn, folding-end}
+use Rattle.rules.proofs.Table.{states-lawful}
+use Rattle.tables.proofs.Folding.{workOf, folding-less, folding-rises, folding-turn, folding-end}
 use Rattle.estimate.proofs.fold.fold_down.Statement.{statement}
 use Rattle.estimate.proofs.fold.fold_down.Tie as tie
 
@@ -32,7 +33,7 @@ fold-once-requires c κs = (search needs, search needs, c .before .before .befor
 
 loop-less : tie.Need-loop-less Inv-loop μ-loop
 loop-less c =
-    folding-less _ _ _ _ _ _ _ (fits-table _ _ (omega arith)) (omega arith) (c .before .before .before .before .if1 .taken) (c .before .before .fold-once .ensures)
+    folding-less states _ _ _ _ _ _ _ (fits-table _ _ (omega arith)) (omega arith) (c .before .before .before .before .if1 .taken) (c .before .before .fold-once .ensures)
 
 loop-again : tie.Need-loop-again Inv-loop μ-loop
 loop-again c =
@@ -42,13 +43,13 @@ loop-again c =
     let less = loop-less c in (
       omega (arith, less),
       search needs,
-      folding-rises _ _ _ _ _ _ _ (fits-table _ _ (omega arith)) (omega arith) (g .if1 .taken) h (l .inv .2),
-      folding-turn _ _ _ _ _ _ _ (fits-table _ _ (omega arith)) (omega arith) (g .if1 .taken) h _ (l .inv .3),
+      folding-rises states _ _ _ _ _ _ _ (fits-table _ _ (omega arith)) (omega arith) (g .if1 .taken) h states-lawful (l .inv .2),
+      folding-turn states _ _ _ _ _ _ _ (fits-table _ _ (omega arith)) (omega arith) (g .if1 .taken) h _ (l .inv .3),
     )
 
 returns : tie.Need-returns Inv-loop μ-loop
 returns c = let l = c .before .before .loop in
-    folding-end _ _ _ _ (fits-table _ _ (omega arith)) (c .if1 .left) _ (l .inv .3)
+    folding-end states _ _ _ _ (fits-table _ _ (omega arith)) (c .if1 .left) _ (l .inv .3)
 
 pub fold-down-spec : {M : Type 1} → statement M
 fold-down-spec =

@@ -7,7 +7,9 @@ use lib.Seq.{length-take-le}
 use borrow.Author.Needs.{needs}
 use Rattle.words.specs.Tables.{tableOf}
 use Rattle.words.proofs.Tables.{fits-table}
-use Rattle.estimate.proofs.Folding.{fewest-within, partner-within, second-within, second-other, fold-stands}
+use Rattle.rules.specs.Fold.{states}
+use Rattle.tables.proofs.Folding.{fewest-within, partner-within}
+use Rattle.estimate.proofs.Folding.{second-within, second-other, fold-stands}
 use Rattle.estimate.proofs.fold.fold_once.Statement.{statement}
 use Rattle.estimate.proofs.fold.fold_once.Tie as tie
 
@@ -16,7 +18,7 @@ place-past-requires c κs =
     let a = c .before .before .before .args in
     let t = tableOf (now (a .words)) in
     let room : a .n ≤ length t = fits-table (now (a .words)) (a .n) (omega arith) in
-    let within = partner-within (take (a .n) t) (a .n) (length-take-le (a .n) t room) (omega arith) _ (c .choose .ensures) in
+    let within = partner-within states (take (a .n) t) (a .n) (length-take-le (a .n) t room) (omega arith) _ (c .choose .ensures) in
     omega (arith, within, c .before .before .before .fits)
 
 load-requires : tie.Need-load-requires
@@ -24,7 +26,7 @@ load-requires c κs =
     let a = c .before .before .before .before .before .args in
     let t = tableOf (now (a .words)) in
     let room : a .n ≤ length t = fits-table (now (a .words)) (a .n) (omega arith) in
-    let within = fewest-within (take (a .n) t) (a .n) (length-take-le (a .n) t room) (omega arith) _ (c .before .before .choose .ensures) in
+    let within = fewest-within states (take (a .n) t) (a .n) (length-take-le (a .n) t room) (omega arith) _ (c .before .before .choose .ensures) in
     omega (arith, within)
 
 load-requires-2 : tie.Need-load-requires-2
@@ -44,7 +46,7 @@ replace-requires c κs =
     let t = tableOf (now (a .words)) in
     let room : a .n ≤ length t = fits-table (now (a .words)) (a .n) (omega arith) in
     let chosen = p .before .choose .ensures in (
-      fewest-within (take (a .n) t) (a .n) (length-take-le (a .n) t room) (omega arith) _ chosen,
+      fewest-within states (take (a .n) t) (a .n) (length-take-le (a .n) t room) (omega arith) _ chosen,
       second-within t (a .n) room (omega arith) _ chosen _ (p .place-past .ensures),
       second-other t (a .n) room (omega arith) _ chosen _ (p .place-past .ensures),
       search needs,

@@ -8,7 +8,8 @@ use borrow.Author.Needs.{needs}
 use Rattle.rules.specs.Ordered.{remove}
 use Rattle.words.specs.Tables.{tableOf}
 use Rattle.words.proofs.Tables.{fits-table}
-use Rattle.estimate.proofs.Folding.{other-within, Nearest, partner-start, partner-closer, partner-other, partner-end, partner-stop}
+use Rattle.tables.proofs.Folding.{other-within}
+use Rattle.estimate.proofs.Folding.{Nearest, partner-start, partner-closer, partner-other, partner-end, partner-stop}
 use Rattle.estimate.proofs.fold.nearest_of_all.Statement.{statement}
 use Rattle.estimate.proofs.fold.nearest_of_all.Tie as tie
 

@@ -13,10 +13,15 @@ use Rattle.rules.specs.Entries.{entryOf}
 use Rattle.rules.proofs.Fold.{length-folded}
 use Rattle.words.specs.Tables.{tableOf}
 use Rattle.estimate.specs.Rooms.{workedIn}
-use Rattle.estimate.specs.Edges.{cameFrom, AtEdge}
+use Rattle.tables.specs.Edges.{cameFrom, AtEdge}
 use Rattle.estimate.specs.Working.{workAt}
-use Rattle.estimate.proofs.Nodes.{counted-few}
-use Rattle.estimate.proofs.Graphs.{into-here, into-none, lower-here, join-turn, fit-turn, joined}
+use Rattle.rules.specs.Table.{listing}
+use Rattle.tables.proofs.Nodes.{counted-few}
+use Rattle.tables.proofs.Edges.{into-here, into-none, lower-here, found}
+use Rattle.words.proofs.Tables.{fits-table}
+use Rattle.rules.specs.Fold.{states}
+use Rattle.tables.proofs.Settling.{join-turn, joined}
+use Rattle.estimate.proofs.Graphs.{fit-turn, all-fit}
 use borrow.Author.Needs.{needs}
 use Rattle.estimate.proofs.graph.join_others.Statement.{statement}
 use Rattle.estimate.proofs.graph.join_others.Tie as tie
@@ -35,7 +40,7 @@ abbrev μ-loop : tie.MeasureT-loop
 μ-loop work₀ to edges after limit counts rows joins so-far₀ number₀ e₀ work so-far number e = length edges - e
 
 loop-holds : tie.Need-loop-holds Inv-loop μ-loop
-loop-holds c = let n = c .next-edge .ensures in
+loop-holds c = let n = found _ _ _ _ (c .next-edge .ensures) in
     let p = c .before .before .before .before .before .pre in
     (n .1, n .2, refl, p .2, refl, rw (n .3) (p .6), rw (n .3) refl, rw (n .3) refl, omega arith)
 
@@ -56,16 +61,16 @@ join-to-requires c κs = let a = c .before .before .before .before .before .befo
     let l = c .before .before .before .before .before .loop in
     let p = c .before .before .before .before .before .before .before .before .before .before .before .pre in
     let low = lower-here (now (a .edges)) (a .to) (l .e) (l .inv .1) (c .before .before .before .before .loop-test .taken) (l .inv .5) in
-    (omega (arith, l .inv .2, p .0), omega (arith, p .1), l .inv .3, omega (arith, low .0, p .1), counted-few (getD (now (a .edges)) (l .e) 0) _ (tableOf (l .work)) (c .before .count .ensures), p .4, p .5, p .7)
+    (omega (arith, l .inv .2, p .0), omega (arith, p .1), l .inv .3, omega (arith, low .0, p .1), counted-few listing (getD (now (a .edges)) (l .e) 0) _ (tableOf (l .work)) (c .before .count .ensures), p .4, p .5, p .7)
 
 add-number : tie.Need-add-number Inv-loop μ-loop
 add-number c = omega (arith, c .before .before .before .before .before .before .before .before .loop .inv .8, c .before .before .before .before .before .before .before .before .loop .inv .0, c .before .before .before .before .before .before .before .before .before .before .before .before .before .before .pre .8, c .before .before .before .before .before .before .before .loop-test .taken)
 
-next-edge-requires-2 : tie.Need-next-edge-requires-2 Inv-loop μ-loop
-next-edge-requires-2 c κs = omega (arith, c .before .before .before .before .before .before .before .before .loop .inv .1 (c .before .before .before .before .before .before .before .loop-test .taken) .0)
-
 loop-less : tie.Need-loop-less Inv-loop μ-loop
-loop-less c = omega (arith, c .next-edge2 .ensures .0, c .next-edge2 .ensures .1)
+loop-less c =
+    let n = found _ _ _ _ (c .next-edge2 .ensures) in
+    let here = c .before .before .before .before .before .before .before .before .before .loop .inv .1 (c .before .before .before .before .before .before .before .before .loop-test .taken) in
+    omega (arith, n .0 (omega (arith, here .0)), n .1)
 
 loop-again : tie.Need-loop-again Inv-loop μ-loop
 loop-again c = let a = c .before .before .before .before .before .before .before .before .before .before .before .before .before .before .before .args in
@@ -73,7 +78,7 @@ loop-again c = let a = c .before .before .before .before .before .before .before
     let p = c .before .before .before .before .before .before .before .before .before .before .before .before .before .before .before .pre in
     let ns = now (a .edges) in
     let g = c .before .before .before .join-to in
-    let n = c .next-edge2 .ensures in
+    let n = found _ _ _ _ (c .next-edge2 .ensures) in
     let here = l .inv .1 (c .before .before .before .before .before .before .before .before .loop-test .taken) in
     let low = lower-here ns (a .to) (l .e) (l .inv .1) (c .before .before .before .before .before .before .before .before .loop-test .taken) (l .inv .5) in
     let few : g .result .states ≤ a .limit = rw (g .ensures .0 .stands .count) (length-folded (a .limit) _ (p .4)) in (
@@ -84,20 +89,23 @@ loop-again c = let a = c .before .before .before .before .before .before .before
       g .ensures .0 .before ∙ l .inv .4,
       rw (n .3) (low .1),
       rw (n .3)
-          (join-turn (a .limit) (a .to) (a .first .aside .0) (tableOf (now (a .work))) (entryOf (now (a .counts)) (now (a .rows))) (l .number) (cameFrom ns (a .to) (l .e)) (cameFrom ns (a .to) (l .e + 2)) (getD ns (l .e) 0) (l .so-far .states) (l .so-far .aside .0) (g .result .states) (g .result .aside .0) (c .before .before .before .before .before .count .result) (l .work) (g .last .0)
+          (join-turn states (a .to) (a .first .aside .0) (tableOf (now (a .work))) (a .limit) (entryOf (now (a .counts)) (now (a .rows))) (l .number) (cameFrom ns (a .to) (l .e)) (cameFrom ns (a .to) (l .e + 2)) (getD ns (l .e) 0) (l .so-far .states) (l .so-far .aside .0) (g .result .states) (g .result .aside .0) (c .before .before .before .before .before .count .result) (tableOf (l .work)) (tableOf (g .last .0))
           (into-here ns (a .to) (l .e) (here .0) (here .1)) (low .0) (c .before .before .before .before .before .count .ensures) (l .inv .4) (g .ensures .0) _ (l .inv .6)),
       rw (n .3)
           (fit-turn (a .limit) (a .to) (a .first .aside .0) (tableOf (now (a .work))) (entryOf (now (a .counts)) (now (a .rows))) (l .number) (cameFrom ns (a .to) (l .e)) (cameFrom ns (a .to) (l .e + 2)) (getD ns (l .e) 0) (l .so-far .states) (l .so-far .aside .0) (g .result .states) (g .result .aside .0) (c .before .before .before .before .before .count .result) (l .work) (g .last .0)
           (into-here ns (a .to) (l .e) (here .0) (here .1)) (low .0) (c .before .before .before .before .before .count .ensures) (l .inv .4) (g .ensures .0) (l .so-far .fits) (g .result .fits) _ (l .inv .7) (g .ensures .1)),
-      omega (arith, l .inv .8, n .0),
+      omega (arith, l .inv .8, n .0 (omega (arith, here .0))),
     )
 
 returns : tie.Need-returns Inv-loop μ-loop
 returns c = let a = c .before .before .before .before .before .before .before .args in
     let l = c .before .loop in
     let p = c .before .before .before .before .before .before .before .pre in
-    joined (a .limit) (a .to) (a .first .aside .0) (tableOf (now (a .work))) (behind (l .number) (entryOf (now (a .counts)) (now (a .rows)))) (cameFrom (now (a .edges)) (a .to) (l .e)) _ _ (l .work) _ _ _
-    (into-none (now (a .edges)) (a .to) (l .e) (omega arith)) (l .inv .3) (p .1) (omega (arith, l .inv .2, p .0)) (l .inv .4) (l .inv .6) (l .inv .7)
+    let none = into-none (now (a .edges)) (a .to) (l .e) (omega arith) in (
+      joined states (a .to) (a .first .aside .0) (tableOf (now (a .work))) (a .limit) (behind (l .number) (entryOf (now (a .counts)) (now (a .rows)))) (cameFrom (now (a .edges)) (a .to) (l .e)) _ _ (tableOf (l .work)) _
+          none (l .inv .3) (p .1) (fits-table (l .work) 5184 (omega (arith, l .inv .2, p .0))) (l .inv .4) (l .inv .6),
+      all-fit (a .limit) (a .to) (a .first .aside .0) (tableOf (now (a .work))) (behind (l .number) (entryOf (now (a .counts)) (now (a .rows)))) (cameFrom (now (a .edges)) (a .to) (l .e)) _ _ _ none (l .inv .7),
+    )
 
 pub join-others-spec : {M : Type 1} → statement M
 join-others-spec =
@@ -116,7 +124,7 @@ join-others-spec =
     join-to-requires
     add-number
     (λ c. search needs)
-    next-edge-requires-2
+    (λ c κs. search needs)
     loop-less
     loop-again
     (λ c. search needs)

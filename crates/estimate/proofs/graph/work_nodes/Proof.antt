@@ -15,7 +15,8 @@ use Rattle.rules.proofs.Graph.{offset-next, run-within, run-long}
 use Rattle.pairings.proofs.Joins.{joins-most}
 use Rattle.words.specs.Tables.{tableOf}
 use Rattle.estimate.specs.Rooms.{workedIn}
-use Rattle.estimate.proofs.Graphs.{offset-start, nodes-start, run-part, node-startable, nodes-next, fits-next}
+use Rattle.tables.proofs.Inputs.{offset-start, run-part}
+use Rattle.estimate.proofs.Graphs.{nodes-start, node-startable, nodes-next, fits-next}
 use Rattle.estimate.proofs.Lasts.{LastsKept, kept-before, kept-next}
 use borrow.Author.Needs.{needs}
 use Rattle.estimate.proofs.graph.work_nodes.Statement.{statement}
@@ -68,7 +69,7 @@ work-node-requires c κs =
     let l = c .before .before .before .before .before .loop in
     let ok = s .pre .1 in
     let here = c .before .before .before .before .loop-test .taken in
-    let part = run-part (entries s) (given s) ok (l .j) here (l .from) (l .inv .2) in (
+    let part = run-part (given s) (l .j) (l .from) (l .inv .2) in (
       rw part (omega (arith, run-long (given s) ok (l .j) here, run-within (given s) ok (l .j) here, ok .few-accesses)),
       node-startable (entries s) (given s) ok (l .j) here (l .done .aside .0) _ (l .work) (l .inv .3) (omega (arith, l .inv .1, s .pre .0)) (ap length part),
       s .pre .2,
@@ -101,7 +102,7 @@ loop-again c =
     let here = c .before .before .before .before .before .before .before .before .before .before .loop-test .taken in
     let g = c .before .before .before .before .before .work-node in
     let known = c .before .before .before .before .before .before .before .before .last-before .ensures in
-    let part = run-part (entries s) i ok (l .j) here (l .from) (l .inv .2) in (
+    let part = run-part i (l .j) (l .from) (l .inv .2) in (
       search needs,
       search needs,
       rw (add-one (l .j)) (omega (arith, l .inv .2, offset-next (now (s .args .runs)) (l .j) here)),

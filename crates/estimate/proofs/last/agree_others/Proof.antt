@@ -7,8 +7,8 @@ use denote.Ref.{now}
 use lib.ListN.{length, getD}
 use borrow.Author.Needs.{needs}
 use Rattle.rules.specs.Graph.{agreeAll}
-use Rattle.estimate.specs.Edges.{cameFrom, AtEdge}
-use Rattle.estimate.proofs.Graphs.{into-here, into-none}
+use Rattle.tables.specs.Edges.{cameFrom, AtEdge}
+use Rattle.tables.proofs.Edges.{into-here, into-none, found}
 use Rattle.estimate.proofs.Lasts.{agree-turn, agree-end}
 use Rattle.estimate.proofs.last.agree_others.Statement.{statement}
 use Rattle.estimate.proofs.last.agree_others.Tie as tie
@@ -21,22 +21,22 @@ abbrev μ-loop : tie.MeasureT-loop
 μ-loop lasts to edges after so-far₀ e₀ so-far e = length edges - e
 
 loop-holds : tie.Need-loop-holds Inv-loop μ-loop
-loop-holds c = let n = c .next-edge .ensures in (n .1, n .2, rw (n .3) refl)
+loop-holds c = let n = found _ _ _ _ (c .next-edge .ensures) in (n .1, n .2, rw (n .3) refl)
 
 cast-last-at : tie.Need-cast-last-at Inv-loop μ-loop
 cast-last-at c = omega (arith, c .shared-slice-known2 .given (c .before .before .loop .e))
 
-next-edge-requires-2 : tie.Need-next-edge-requires-2 Inv-loop μ-loop
-next-edge-requires-2 c κs = omega (arith, c .before .before .before .before .loop .inv .1 (c .before .before .before .loop-test .taken) .0)
-
 loop-less : tie.Need-loop-less Inv-loop μ-loop
-loop-less c = omega (arith, c .next-edge2 .ensures .0, c .next-edge2 .ensures .1)
+loop-less c =
+    let n = found _ _ _ _ (c .next-edge2 .ensures) in
+    let here = c .before .before .before .before .before .loop .inv .1 (c .before .before .before .before .loop-test .taken) in
+    omega (arith, n .0 (omega (arith, here .0)), n .1)
 
 loop-again : tie.Need-loop-again Inv-loop μ-loop
 loop-again c =
     let a = c .before .before .before .before .before .before .before .before .args in
     let l = c .before .before .before .before .before .loop in
-    let n = c .next-edge2 .ensures in
+    let n = found _ _ _ _ (c .next-edge2 .ensures) in
     let here = l .inv .1 (c .before .before .before .before .loop-test .taken) in (
       n .1,
       n .2,
@@ -63,7 +63,7 @@ agree-others-spec =
     (λ c κs. search needs)
     (λ c κs. search needs)
     (λ c. search needs)
-    next-edge-requires-2
+    (λ c κs. search needs)
     loop-less
     loop-again
     returns)

@@ -7,7 +7,8 @@ use lib.ListN.{length, drop}
 use lib.Seq.{paste, paste-zero}
 use Rattle.words.specs.Tables.{tableOf}
 use Rattle.words.proofs.Tables.{fits-table}
-use Rattle.estimate.proofs.Nodes.{copy-turn}
+use Rattle.rules.specs.Table.{listing}
+use Rattle.tables.proofs.Nodes.{copy-turn}
 use borrow.Author.Needs.{needs}
 use Rattle.estimate.proofs.memory.copy.Statement.{statement}
 use Rattle.estimate.proofs.memory.copy.Tie as tie
@@ -27,7 +28,7 @@ loop-again c = let b = c .before .before .before .before .before .before .before
     let p = b .before .before .pre in (
       search needs,
       search needs,
-      copy-turn (tableOf (now (a .words))) (a .from) (a .to) (a .n) (b .loop .i) (fits-table (now (a .words)) (a .from + a .n) (p .0)) (fits-table (now (a .words)) (a .to + a .n) (p .1)) (p .2)
+      copy-turn listing (tableOf (now (a .words))) (a .from) (a .to) (a .n) (b .loop .i) (fits-table (now (a .words)) (a .from + a .n) (p .0)) (fits-table (now (a .words)) (a .to + a .n) (p .1)) (p .2)
           (omega arith) _ _ _ (b .loop .inv .2) (c .before .before .before .before .load .ensures) (c .before .before .store .ensures),
     )
 

@@ -3,16 +3,17 @@ use native.Mathlib.Omega.{arith}
 use denote.Ref.{now}
 use Rattle.words.specs.Tables.{tableOf}
 use Rattle.words.proofs.Tables.{fits-table}
-use Rattle.estimate.proofs.Insertion.{added-one, added-none}
+use Rattle.rules.specs.Table.{listing}
+use Rattle.tables.proofs.Insertion.{added-one, added-none}
 use borrow.Author.Needs.{needs}
 use Rattle.estimate.proofs.placing.add.Statement.{statement}
 use Rattle.estimate.proofs.placing.add.Tie as tie
 
 returns : tie.Need-returns
-returns c = let a = c .before .before .before .before .args in added-none (a .s) (a .n) (tableOf (now (a .words))) (fits-table (now (a .words)) (a .n) (omega arith)) (c .if1 .taken)
+returns c = let a = c .before .before .before .before .args in added-none listing (a .s) (a .n) (tableOf (now (a .words))) (fits-table (now (a .words)) (a .n) (omega arith)) (c .if1 .taken)
 
 returns-2 : tie.Need-returns-2
-returns-2 c = added-one _ _ _ _ _ (c .before .before .before .before .if1 .left) (c .before .before .put .ensures)
+returns-2 c = added-one listing _ _ _ _ _ (c .before .before .before .before .if1 .left) (c .before .before .put .ensures)
 
 pub add-spec : {M : Type 1} → statement M
 add-spec =

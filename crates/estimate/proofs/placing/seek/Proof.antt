@@ -7,20 +7,22 @@ use lib.ListN.{take}
 use mathlib.Core.Path.{_≡_}
 use Rattle.words.specs.Tables.{tableOf}
 use Rattle.words.proofs.Tables.{fits-table}
-use Rattle.estimate.proofs.Insertion.{Passed, Stopped, seek-start, seek-up, seek-down, seek-end}
+use Rattle.rules.specs.Table.{listing}
+use Rattle.rules.proofs.Ordered.{state-orders}
+use Rattle.tables.proofs.Insertion.{Passed, Stopped, seek-start, seek-up, seek-down, seek-end}
 use borrow.Author.Needs.{needs}
 use Rattle.estimate.proofs.placing.seek.Statement.{statement}
 use Rattle.estimate.proofs.placing.seek.Tie as tie
 
 abbrev Inv-loop : tie.InvT-loop
-Inv-loop words n s low₀ high₀ low high = (low ≤ high) × (high ≤ n) × Passed s (take n (tableOf words)) low × Stopped s (take n (tableOf words)) high
+Inv-loop words n s low₀ high₀ low high = (low ≤ high) × (high ≤ n) × Passed listing s (take n (tableOf words)) low × Stopped listing s (take n (tableOf words)) high
 
 abbrev μ-loop : tie.MeasureT-loop
 μ-loop words n s low₀ high₀ low high = high - low
 
 loop-holds : tie.Need-loop-holds Inv-loop μ-loop
 loop-holds c = let a = c .before .args in
-    let start = seek-start (a .s) (a .n) (tableOf (now (a .words))) (fits-table (now (a .words)) (a .n) (omega arith)) in
+    let start = seek-start listing (a .s) (a .n) (tableOf (now (a .words))) (fits-table (now (a .words)) (a .n) (omega arith)) in
     (search needs, search needs, start .0, start .1)
 
 loop-again : tie.Need-loop-again Inv-loop μ-loop
@@ -28,8 +30,8 @@ loop-again c = let b = c .before .before .before .before in
     let a = b .before .before .args in (
       omega arith,
       search needs,
-      seek-up (a .s) (a .n) (tableOf (now (a .words))) (fits-table (now (a .words)) (a .n) (omega arith)) _ _ _ (omega arith)
-          (c .before .before .load .ensures) (c .before .is-after .ensures) (b .before .before .pre .1) (c .if1 .taken),
+      seek-up listing (a .s) (a .n) (tableOf (now (a .words))) (fits-table (now (a .words)) (a .n) (omega arith)) _ _ _ (omega arith)
+          (c .before .before .load .ensures) (c .before .is-after .ensures) state-orders (b .before .before .pre .1) (c .if1 .taken),
       b .loop .inv .3,
     )
 
@@ -39,7 +41,7 @@ loop-again-2 c = let b = c .before .before .before .before in
       omega arith,
       omega arith,
       b .loop .inv .2,
-      seek-down (a .s) (a .n) (tableOf (now (a .words))) (fits-table (now (a .words)) (a .n) (omega arith)) _ _ _ (omega arith)
+      seek-down listing (a .s) (a .n) (tableOf (now (a .words))) (fits-table (now (a .words)) (a .n) (omega arith)) _ _ _ (omega arith)
           (c .before .before .load .ensures) (c .before .is-after .ensures) (c .if1 .left),
     )
 
@@ -47,7 +49,7 @@ returns : tie.Need-returns Inv-loop μ-loop
 returns c = let a = c .before .before .before .args in
     let l = c .before .loop in
     let met : l .high ≡ l .low = omega arith in
-    seek-end (a .s) (a .n) (tableOf (now (a .words))) (fits-table (now (a .words)) (a .n) (omega arith)) _ (omega arith) (l .inv .2) (rw met at (l .inv .3))
+    seek-end listing (a .s) (a .n) (tableOf (now (a .words))) (fits-table (now (a .words)) (a .n) (omega arith)) _ (omega arith) (l .inv .2) (rw met at (l .inv .3))
 
 pub seek-spec : {M : Type 1} → statement M
 seek-spec =

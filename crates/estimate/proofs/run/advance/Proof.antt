@@ -1,19 +1,25 @@
 -- `advance` aims at the block, gathers what follows in the scratch, and settles it.
+use mathlib.Core.Path.{_≡_}
 use native.Mathlib.Omega.{arith}
 use denote.Ref.{now}
+use Rattle.rules.specs.Contents.{targetOf}
 use Rattle.rules.specs.Shape.{Aimed}
 use Rattle.estimate.specs.Working.{workAt}
 use Rattle.estimate.proofs.Settling.{workable, placed, aimed-so, gathered-fits, advanced}
+use Rattle.tables.proofs.Masks.{aimed-so as aim-so}
 use borrow.Author.Needs.{needs}
 use Rattle.estimate.proofs.run.advance.Statement.{statement}
 use Rattle.estimate.proofs.run.advance.Tie as tie
 
-aim-requires : tie.Need-aim-requires
-aim-requires c κs = let p = c .before .before .pre in (p .ranges .few-tracked, p .ranges .known-sets)
+-- what the access is after, and that it is after a block of the cache
+target : (c : tie.After-aim) → let a = c .before .before .before .args in c .aim .result ≡ targetOf (a .cache .sets) (now (a .tracked)) (a .last) (a .block)
+target c =
+    let a = c .before .before .before .args in
+    let r = c .before .before .before .pre .ranges in
+    aim-so (a .cache .sets) (now (a .tracked)) (r .few-tracked) (r .known-sets) (a .last) (a .block) _ (c .aim .ensures)
 
--- the access is after a block of the cache
 aims : (c : tie.After-aim) → Aimed (c .before .before .before .args .cache .sets) (now (c .before .before .before .args .tracked)) (c .aim .result)
-aims c = let a = c .before .before .before .args in aimed-so _ _ (c .before .before .before .pre .ranges .known-sets) (a .last) (a .block) _ (c .aim .ensures)
+aims c = let a = c .before .before .before .args in aimed-so _ _ (c .before .before .before .pre .ranges .known-sets) (a .last) (a .block) _ (target c)
 
 gather-requires : tie.Need-gather-requires
 gather-requires c κs =
@@ -41,13 +47,13 @@ returns c =
     let a = c .before .before .before .before .before .before .before .before .before .before .before .before .args in
     let g = c .before .before .before .before .before .before .gather in
     let x = c .before .before .before .before .before .before .before .before .before .aim in
-    advanced (a .cache .ways) (a .limit) (x .result) _ (workAt (a .at) (a .tally .states) (a .tally .aside .0) (now (a .work))) (a .at) _ _ _ _ _ _ _ (x .ensures) (omega (arith, c .before .before .before .before .before .before .before .before .before .before .before .before .pre .slot)) (g .ensures .0) (g .ensures .1) (c .before .before .settle .ensures)
+    advanced (a .cache .ways) (a .limit) (x .result) _ (workAt (a .at) (a .tally .states) (a .tally .aside .0) (now (a .work))) (a .at) _ _ _ _ _ _ _ (target (c .before .before .before .before .before .before .before .before .before)) (omega (arith, c .before .before .before .before .before .before .before .before .before .before .before .before .pre .slot)) (g .ensures .0) (g .ensures .1) (c .before .before .settle .ensures)
 
 pub advance-spec : {M : Type 1} → statement M
 advance-spec =
     tie.close
     (tie.spec
-    aim-requires
+    (λ c κs. search needs)
     (λ c. search needs)
     gather-requires
     settle-requires

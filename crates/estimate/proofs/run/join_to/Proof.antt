@@ -5,7 +5,8 @@ use native.Mathlib.Omega.{arith}
 use denote.Ref.{now}
 use lib.ListN.{drop, length-take}
 use Rattle.words.specs.Tables.{tableOf}
-use Rattle.estimate.proofs.Settling.{settled-from}
+use Rattle.rules.specs.Fold.{states}
+use Rattle.tables.proofs.Settling.{settled-from}
 use Rattle.estimate.proofs.HandedIn.{by-entry-fits}
 use borrow.Author.Needs.{needs}
 use Rattle.estimate.proofs.run.join_to.Statement.{statement}
@@ -27,7 +28,7 @@ returns : tie.Need-returns
 returns c = let a = c .before .before .before .before .before .before .before .before .before .before .before .before .before .before .args in
     let p = c .before .before .before .before .before .before .before .before .before .before .before .before .before .before .pre in
     let g = c .before .before .before .before .before .before .before .before .before .pair-entry .ensures in (
-      settled-from (a .limit) _ _ _ _ (a .at) _ _ _ _ _ (g .0 .table) refl (omega (arith, p .1)) (g .0 .slots) (c .before .before .before .before .settle .ensures),
+      settled-from states (a .limit) _ _ _ _ (a .at) _ _ _ _ _ (g .0 .table) refl (omega (arith, p .1)) (g .0 .slots) (c .before .before .before .before .settle .ensures),
       c .both .ensures ∙ ap (a .begun .fits &&_) (g .1),
     )
 

@@ -8,7 +8,9 @@ use lib.ListN.{length, take}
 use Rattle.words.specs.Tables.{tableOf}
 use native.Mathlib.Numerals.{add-one}
 use Rattle.estimate.specs.Working.{workAt, Ready}
-use Rattle.estimate.proofs.Settling.{Ran, ran-next, ran-stands, stands-work, ready-wider, ready-next}
+use Rattle.rules.specs.Fold.{states}
+use Rattle.tables.proofs.Settling.{Ran, ran-next, stands-work}
+use Rattle.estimate.proofs.Settling.{ran-stands, ready-wider, ready-next}
 use borrow.Author.Needs.{needs}
 use Rattle.estimate.proofs.run.run.Statement.{statement}
 use Rattle.estimate.proofs.run.run.Tie as tie
@@ -17,7 +19,7 @@ abbrev Inv-loop : tie.InvT-loop
 Inv-loop work₀ at accesses tracked cache limit so-far₀ before₀ i₀ work so-far before i =
     (i ≤ length accesses) × (length work ≡ length work₀) × Ready cache tracked limit (4096 - (length accesses - i)) at (so-far .states) (so-far .aside .0) work
     × (take at (tableOf work) ≡ take at (tableOf work₀))
-    × Ran (cache .ways) (cache .sets) limit tracked accesses i before (workAt at (so-far .states) (so-far .aside .0) work) before₀ (workAt at (so-far₀ .states) (so-far₀ .aside .0) work₀)
+    × Ran states (cache .ways) (cache .sets) limit tracked accesses i before (workAt at (so-far .states) (so-far .aside .0) work) before₀ (workAt at (so-far₀ .states) (so-far₀ .aside .0) work₀)
 
 abbrev μ-loop : tie.MeasureT-loop
 μ-loop work₀ at accesses tracked cache limit so-far₀ before₀ i₀ work so-far before i = length accesses - i
@@ -42,7 +44,7 @@ loop-again c = let a = c .before .before .before .before .before .before .before
       search needs,
       ready-next (a .cache) t (a .limit) (4096 - (length (now (a .accesses)) - l .i)) next (a .at) _ _ _ _ (l .before) _ (l .work) (g .last .0) (omega (arith, c .before .before .before .before .before .before .before .before .before .before .pre .0)) (g .kept .0) (l .inv .2) (g .ensures),
       g .ensures .before ∙ l .inv .3,
-      rw (add-one (l .i), stands-work _ _ _ _ _ _ (g .ensures)) (ran-next (a .cache .ways) (a .cache .sets) (a .limit) t (now (a .accesses)) (l .i) (l .before) _ _ _ _ (omega arith) refl (l .inv .4)),
+      rw (add-one (l .i), stands-work _ _ _ _ _ _ (g .ensures)) (ran-next states (a .cache .ways) (a .cache .sets) (a .limit) t (now (a .accesses)) (l .i) (l .before) _ _ _ _ (omega arith) refl (l .inv .4)),
     )
 
 returns : tie.Need-returns Inv-loop μ-loop

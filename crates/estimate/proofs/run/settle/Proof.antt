@@ -6,7 +6,7 @@ use denote.Ref.{now}
 use Rattle.rules.proofs.Fold.{length-folded}
 use Rattle.words.specs.Tables.{tableOf}
 use Rattle.words.proofs.Tables.{fits-table}
-use Rattle.estimate.proofs.Settling.{settled}
+use Rattle.tables.proofs.Settling.{settled}
 use borrow.Author.Needs.{needs}
 use Rattle.estimate.proofs.run.settle.Statement.{statement}
 use Rattle.estimate.proofs.run.settle.Tie as tie

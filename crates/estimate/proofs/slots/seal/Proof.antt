@@ -5,10 +5,10 @@ use native.Mathlib.Omega.{arith}
 use denote.Ref.{now}
 use lib.ListN.{length, replicate}
 use lib.Seq.{paste, paste-zero}
-use Rattle.rules.specs.Table.{noState}
+use Rattle.rules.specs.Table.{noState, listing}
 use Rattle.words.specs.Tables.{tableOf}
 use Rattle.words.proofs.Tables.{fits-table}
-use Rattle.estimate.proofs.Nodes.{seal-turn}
+use Rattle.tables.proofs.Nodes.{seal-turn}
 use borrow.Author.Needs.{needs}
 use Rattle.estimate.proofs.slots.seal.Statement.{statement}
 use Rattle.estimate.proofs.slots.seal.Tie as tie
@@ -30,7 +30,7 @@ loop-again c = let b = c .before .before .before .before .before in
       search needs,
       search needs,
       search needs,
-      seal-turn (tableOf (now (a .work))) (a .at) (a .n) (b .loop .i) (fits-table (now (a .work)) (a .at + 64) (omega arith)) (omega arith) (omega arith) _ _ (b .loop .inv .3) (c .before .before .store .ensures),
+      seal-turn listing (tableOf (now (a .work))) (a .at) (a .n) (b .loop .i) (fits-table (now (a .work)) (a .at + 64) (omega arith)) (omega arith) (omega arith) _ _ (b .loop .inv .3) (c .before .before .store .ensures),
     )
 
 returns : tie.Need-returns Inv-loop μ-loop
