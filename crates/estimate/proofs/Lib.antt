@@ -1,5 +1,13 @@
--- When two states stand in the same place
+-- When two states stand in the same place, and which stands after the other
 pub mod Insertion
+pub mod Deciding
+-- States added in any order
+pub mod Adding
+-- The states that follow as streams, their order, and runs of them merged into a table
+pub mod StreamOrder
+pub mod Streams
+pub mod StreamParts
+pub mod Runs
 -- The filled numbers
 pub mod Numbers
 -- The states that follow

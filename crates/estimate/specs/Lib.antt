@@ -4,6 +4,8 @@ pub mod Placing
 pub mod Rooms
 -- The states that follow
 pub mod Following
+-- The states that follow as streams, and streams merged
+pub mod Merging
 -- The partner in a fold
 pub mod Partners
 -- Joining two tables

@@ -1,4 +1,4 @@
-// One access: the states that follow those of a table.
+// One access, state by state: what a miss can evict, what becomes of a state, and what of it is set aside. A table of few states is worked by this alone.
 use crate::filled::fill_one;
 use crate::filled::number_of;
 use crate::memory::load;
@@ -171,8 +171,8 @@ pub(crate) fn left_over(s: State, x: Target, ways: u64) -> Units
     u.split(ways).rest
 }
 
-// The states that follow the `m` states at place `from`, added in the scratch, which is empty at first.
-pub(crate) fn gather(
+// The states that follow the `m` states at place `from`, added one after the other in the scratch, which is empty at first.
+pub(crate) fn gather_each(
     work: &mut [u64],
     from: usize,
     m: usize,

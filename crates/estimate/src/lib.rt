@@ -23,6 +23,7 @@ mod handed;
 mod join;
 mod last;
 mod memory;
+mod merge;
 mod placing;
 mod run;
 mod slots;

@@ -3,23 +3,16 @@ use crate::filled::same_filled;
 use crate::memory::load;
 use crate::memory::store;
 use rules::State;
-use rules::stands_before;
 ghost use mathlib.Core.Path.{_≡_};
 ghost use mathlib.Core.Bool.{true, _&&_};
 ghost use mathlib.Core.List.{[], _∷_, _++_};
 ghost use Prim.Native.Nat.{_+_, _*_, _≤_, suc};
 ghost use lib.Dec.{ltb};
 ghost use lib.ListN.{length, take, drop};
+ghost use Rattle.rules.specs.Ordered.{insert};
 ghost use Rattle.rules.specs.Table.{order, plus as plusOf, rising, stateAt};
 ghost use Rattle.words.specs.Tables.{tableOf};
-ghost use Rattle.estimate.specs.Placing.{isAfter, isSame, placeOf, Inserted, Added};
-
-// Whether `s` stands after `t`.
-pub(crate) fn is_after(s: State, t: State) -> bool
-    ensures { λ r. ⌜ r ≡ isAfter (order s t) ⌝ }
-{
-    stands_before(t, s)
-}
+ghost use Rattle.estimate.specs.Placing.{isAfter, isSame, placeOf, Passed, Inserted, Added};
 
 // Whether `s` and `t` stand in the same place.
 pub(crate) fn is_same(s: State, t: State) -> bool
@@ -49,22 +42,69 @@ pub(crate) fn plus(t: State, s: State) -> State
     }
 }
 
-// How many of the first `n` states stand before `s`: by halves.
-pub(crate) fn seek(words: &[u64], n: usize, s: State) -> usize
-    requires { ⌜ (n * 5 ≤ length (now words)) × (rising (take n (tableOf (now words))) ≡ true) ⌝ }
+// Whether `s` stands after the state at place `at`: no word is read where those before it decide.
+pub(crate) fn is_behind(words: &[u64], at: usize, s: State) -> bool
+    requires { ⌜ at * 5 + 5 ≤ length (now words) ⌝ }
+    ensures { λ r. ⌜ r ≡ isAfter (order s (stateAt (tableOf (now (words .entry))) at)) ⌝ }
+{
+    let base = at * 5;
+    let mask = words[base];
+    if mask != s.mask {
+        return mask < s.mask;
+    }
+    let misses = words[base + 1];
+    if misses != s.misses {
+        return misses < s.misses;
+    }
+    let f = s.filled;
+    let front = words[base + 2];
+    if front != f.front {
+        return front < f.front;
+    }
+    words[base + 3] < f.back
+}
+
+// How many of the first `n` states stand before `s`, as the first `from` do: by halves.
+pub(crate) fn seek(words: &[u64], from: usize, n: usize, s: State) -> usize
+    requires { ⌜ (from ≤ n) × (n * 5 ≤ length (now words)) × (rising (take n (tableOf (now words))) ≡ true) × Passed s (take n (tableOf (now words))) from ⌝ }
     ensures { λ r. ⌜ r ≡ placeOf s (take n (tableOf (now (words .entry)))) ⌝ }
 {
-    let mut low: usize = 0;
+    let mut low = from;
     let mut high = n;
     while low < high {
         let middle = low + (high - low) / 2;
-        if is_after(s, load(words, middle)) {
+        if is_behind(words, middle, s) {
             low = middle + 1;
         } else {
             high = middle;
         }
     }
     low
+}
+
+// Whether the contents of the state at place `at` come before those of `s`.
+pub(crate) fn holds_less(words: &[u64], at: usize, s: State) -> bool
+    requires { ⌜ at * 5 + 5 ≤ length (now words) ⌝ }
+    ensures { λ r. ⌜ (r ≡ true → isAfter (order s (stateAt (tableOf (now (words .entry))) at)) ≡ true) ⌝ }
+{
+    words[at * 5] < s.mask
+}
+
+// The same, where `s` often belongs to place `from`, or to the end.
+pub(crate) fn seek_on(words: &[u64], from: usize, n: usize, s: State) -> usize
+    requires { ⌜ (from ≤ n) × (n * 5 ≤ length (now words)) × (rising (take n (tableOf (now words))) ≡ true) × Passed s (take n (tableOf (now words))) from ⌝ }
+    ensures { λ r. ⌜ r ≡ placeOf s (take n (tableOf (now (words .entry)))) ⌝ }
+{
+    if n <= from {
+        return from;
+    }
+    if holds_less(words, n - 1, s) {
+        return n;
+    }
+    if is_behind(words, from, s) {
+        return seek(words, from + 1, n, s);
+    }
+    from
 }
 
 // Whether `s` belongs to the state at place `at` of `n`.
@@ -92,12 +132,11 @@ pub(crate) fn make_room(words: &mut [u64], n: usize, at: usize, s: State)
     store(words, at, s);
 }
 
-// Puts `s` into the table of the first `n` states; how many it then has.
-pub(crate) fn put(words: &mut [u64], n: usize, s: State) -> usize
-    requires { ⌜ (n * 5 + 5 ≤ length (now words)) × (rising (take n (tableOf (now words))) ≡ true) ⌝ }
+// Puts `s` at place `at`, where it belongs, into the table of the first `n` states; how many it then has.
+pub(crate) fn put_at(words: &mut [u64], n: usize, at: usize, s: State) -> usize
+    requires { ⌜ (n * 5 ≤ length (now words)) × (length (insert order plusOf s (take n (tableOf (now words)))) * 5 ≤ length (now words)) × (at ≡ placeOf s (take n (tableOf (now words)))) ⌝ }
     ensures { λ r. ⌜ Inserted s n r (tableOf (now (words .entry))) (tableOf (now (words .exit))) ⌝ }
 {
-    let at = seek(words, n, s);
     if meets(words, n, at, s) {
         let t = load(words, at);
         store(words, at, plus(t, s));
@@ -107,7 +146,55 @@ pub(crate) fn put(words: &mut [u64], n: usize, s: State) -> usize
     n + 1
 }
 
-// The same; a state of 0 units vanishes.
+// Puts `s` into the table of the first `n` states; how many it then has.
+pub(crate) fn put(words: &mut [u64], n: usize, s: State) -> usize
+    requires { ⌜ (n * 5 + 5 ≤ length (now words)) × (rising (take n (tableOf (now words))) ≡ true) ⌝ }
+    ensures { λ r. ⌜ Inserted s n r (tableOf (now (words .entry))) (tableOf (now (words .exit))) ⌝ }
+{
+    let at = seek(words, 0, n, s);
+    put_at(words, n, at, s)
+}
+
+// How many states a table has when a state has come in, and the place behind that one.
+pub(crate) struct Reached {
+    pub states: usize,
+    pub at: usize,
+}
+
+// Puts `s` into the table of the first `n` states, of which the first `from` stand before it.
+pub(crate) fn put_on(words: &mut [u64], from: usize, n: usize, s: State) -> Reached
+    requires { ⌜ (from ≤ n) × (n * 5 ≤ length (now words)) × (length (insert order plusOf s (take n (tableOf (now words)))) * 5 ≤ length (now words)) × (rising (take n (tableOf (now words))) ≡ true) × Passed s (take n (tableOf (now words))) from ⌝ }
+    ensures { λ r. ⌜ Inserted s n (r .states) (tableOf (now (words .entry))) (tableOf (now (words .exit))) × (r .at ≡ suc (placeOf s (take n (tableOf (now (words .entry)))))) ⌝ }
+{
+    let at = seek_on(words, from, n, s);
+    let states = put_at(words, n, at, s);
+    Reached { states, at: at + 1 }
+}
+
+// How many of the first `n` states are seen to stand before `s`: the first `near`, or none.
+pub(crate) fn passed(words: &[u64], near: usize, n: usize, s: State) -> usize
+    requires { ⌜ (near ≤ n) × (n * 5 ≤ length (now words)) × (rising (take n (tableOf (now words))) ≡ true) ⌝ }
+    ensures { λ r. ⌜ (r ≤ n) × Passed s (take n (tableOf (now (words .entry)))) r ⌝ }
+{
+    if near == 0 {
+        return 0;
+    }
+    if is_behind(words, near - 1, s) {
+        return near;
+    }
+    0
+}
+
+// Puts `s` into the table of the first `n` states, where it often belongs to place `near` or behind it.
+pub(crate) fn put_near(words: &mut [u64], near: usize, n: usize, s: State) -> Reached
+    requires { ⌜ (near ≤ n) × (n * 5 + 5 ≤ length (now words)) × (rising (take n (tableOf (now words))) ≡ true) ⌝ }
+    ensures { λ r. ⌜ Inserted s n (r .states) (tableOf (now (words .entry))) (tableOf (now (words .exit))) × (r .at ≡ suc (placeOf s (take n (tableOf (now (words .entry)))))) ⌝ }
+{
+    let from = passed(words, near, n, s);
+    put_on(words, from, n, s)
+}
+
+// The same as `put`; a state of 0 units vanishes.
 pub(crate) fn add(words: &mut [u64], n: usize, s: State) -> usize
     requires { ⌜ (n * 5 + 5 ≤ length (now words)) × (rising (take n (tableOf (now words))) ≡ true) ⌝ }
     ensures { λ r. ⌜ Added (s ∷ []) n r (tableOf (now (words .entry))) (tableOf (now (words .exit))) ⌝ }

@@ -1,8 +1,8 @@
 // Accesses one after the other, and a table joined: each followed by its folds.
-use crate::access::gather;
 use crate::fold::fold_down;
 use crate::handed::pair_entry;
 use crate::memory::copy;
+use crate::merge::gather;
 use crate::states::Joined;
 use crate::states::Tally;
 use crate::states::both;

@@ -17,7 +17,8 @@ use Rattle.rules.specs.Ordered.{Order, before, same, after, byNumber, thenBy, i
 use Rattle.rules.specs.AnyTable.{Listing, plus, present, add, at}
 use Rattle.rules.proofs.Ordered.{Orders, turned, number-cases, rises-in-order, after-all}
 use Rattle.rules.proofs.Partners.{in-order-at}
-use Rattle.tables.specs.Placing.{isAfter, isSame, placeOf, Inserted, Added}
+use Rattle.rules.proofs.Listings.{Lawful}
+use Rattle.tables.specs.Placing.{isAfter, isSame, placeOf, Passed, Inserted, Added}
 
 -- ---- two orders, and two numbers
 
@@ -65,16 +66,12 @@ module _ {A : Type 0} (states : Listing A) where
 
   -- ---- where a state belongs
 
-  -- s stands after the first i states
-  abbrev pub Passed : A → List A → ℕ → Type 0
-  Passed s T i = (j : ℕ) → j < i → isAfter (order s (stateAt T j)) ≡ true
-
   -- s does not stand after the state at place i, if there is one
   abbrev pub Stopped : A → List A → ℕ → Type 0
   Stopped s T i = i < length T → isAfter (order s (stateAt T i)) ≡ false
 
   -- where s stands after one state of a rises order table, it stands after all before that
-  passed-up : Orders order → (s : A) (T : List A) → rises order T ≡ true → (m : ℕ) → m < length T → true ≡ isAfter (order s (stateAt T m)) → Passed s T (suc m)
+  passed-up : Orders order → (s : A) (T : List A) → rises order T ≡ true → (m : ℕ) → m < length T → true ≡ isAfter (order s (stateAt T m)) → Passed states s T (suc m)
   passed-up orders s T h m l e j k = go (eq-or-lt-of-le (le-of-suc-le-suc k))
     where
       go : (j ≡ m) ⊎ (j < m) → isAfter (order s (stateAt T j)) ≡ true
@@ -83,7 +80,7 @@ module _ {A : Type 0} (states : Listing A) where
           rw (after-all order orders s (stateAt T m) (stateAt T j) (is-after _ (sym e)) (in-order-at order none T (rises-in-order order (orders .onward) T h) j m q l))
 
   -- that is the place
-  place-found : (s : A) (T : List A) (i : ℕ) → i ≤ length T → Passed s T i → Stopped s T i → i ≡ placeOf states s T
+  place-found : (s : A) (T : List A) (i : ℕ) → i ≤ length T → Passed states s T i → Stopped s T i → i ≡ placeOf states s T
   unfolding placeOf
   place-found s [] zero l p q = refl
   place-found s [] (suc i) l p q = absurd (omega arith)
@@ -103,20 +100,24 @@ module _ {A : Type 0} (states : Listing A) where
 
   -- the search by halves among the first n states of a list
   module _ (s : A) (n : ℕ) (T : List A) (room : n ≤ length T) where
-    pub seek-start : Passed s (take n T) 0 × Stopped s (take n T) n
+    pub seek-start : Passed states s (take n T) 0 × Stopped s (take n T) n
     seek-start = (λ j l. absurd (not-suc-le-zero l), λ l. absurd (omega (arith, length-take-le n T room)))
+
+    -- past the last of them none stands
+    pub seek-full : (i : ℕ) → n ≤ i → Stopped s (take n T) i
+    seek-full i m l = absurd (omega (arith, length-take-le n T room))
 
     module _ (m : ℕ) (t : A) (r : Bool) (l : m < n) (p : t ≡ stateAt T m) (q : r ≡ isAfter (order s t)) where
       there : r ≡ isAfter (order s (stateAt (take n T) m))
       there = q ∙ rw (p, getD-take n T m none l)
 
-      pub seek-up : Orders order → rises order (take n T) ≡ true → r ≡ true → Passed s (take n T) (m + 1)
+      pub seek-up : Orders order → rises order (take n T) ≡ true → r ≡ true → Passed states s (take n T) (m + 1)
       seek-up orders h e = rw (add-one m) (passed-up orders s (take n T) h m (omega (arith, length-take-le n T room)) (sym e ∙ there))
 
       pub seek-down : r ≡ false → Stopped s (take n T) m
       seek-down e k = sym there ∙ e
 
-    pub seek-end : (i : ℕ) → i ≤ n → Passed s (take n T) i → Stopped s (take n T) i → i ≡ placeOf states s (take n T)
+    pub seek-end : (i : ℕ) → i ≤ n → Passed states s (take n T) i → Stopped s (take n T) i → i ≡ placeOf states s (take n T)
     seek-end i l p q = place-found s (take n T) i (omega (arith, length-take-le n T room)) p q
 
     pub place-within : (i : ℕ) → i ≡ placeOf states s (take n T) → i ≤ n
@@ -179,19 +180,81 @@ module _ {A : Type 0} (states : Listing A) where
         is : insert order (plus states) s (take n T) ≡ set (take n T) at y
         is = insert-same s (take n T) at e (omega (arith, long)) (rw here h) ∙ rw (here, q)
 
-    -- or put in before it
+    -- or put in before it: there is one more then
+    put-open : (at < n → isSame (order s (stateAt T at)) ≡ false) → insert order (plus states) s (take n T) ≡ take at (take n T) ++ (s ∷ drop at (take n T))
+    put-open h = insert-open s (take n T) at e (λ l. rw (getD-take n T at none (omega (arith, long))) (h (omega (arith, long))))
+
+    below : at ≤ length (take n T)
+    below = rw e (place-least s (take n T))
+
+    pub new-room : (at < n → isSame (order s (stateAt T at)) ≡ false) → length (insert order (plus states) s (take n T)) ≡ n + 1
+    new-room h =
+        ap length (put-open h)
+        ∙ omega (arith, length-append (take at (take n T)) (s ∷ drop at (take n T)), length-take-le at (take n T) below, length-drop at (take n T), long, below)
+
     pub put-new : (at < n → isSame (order s (stateAt T at)) ≡ false) → take (suc n) T′ ≡ take at T ++ (s ∷ drop at (take n T)) → Inserted states s n (n + 1) T T′
     put-new h r =
         record {
-          count = sym (ap length is ∙ omega (arith, length-append (take at (take n T)) (s ∷ drop at (take n T)), length-take-le at (take n T) below, length-drop at (take n T), long, below));
-          table = rw (add-one n) (r ∙ ap (λ (X : List A). X ++ (s ∷ drop at (take n T))) (sym (take-take at n T (omega (arith, long, below)))) ∙ sym is);
+          count = sym (new-room h);
+          table = rw (add-one n) (r ∙ ap (λ (X : List A). X ++ (s ∷ drop at (take n T))) (sym (take-take at n T (omega (arith, long, below)))) ∙ sym (put-open h));
         }
-      where
-        below : at ≤ length (take n T)
-        below = rw e (place-least s (take n T))
 
-        is : insert order (plus states) s (take n T) ≡ take at (take n T) ++ (s ∷ drop at (take n T))
-        is = insert-open s (take n T) at e (λ l. rw (getD-take n T at none (omega (arith, long))) (h (omega (arith, long))))
+  -- ---- a state that comes in next
+
+  -- where t has come in, what stands behind it stands after all states up to it
+  pub passed-next : Orders order → Lawful states → (t u : A) → order t u ≡ before → (T : List A) → Passed states u (insert order (plus states) t T) (suc (placeOf states t T))
+  unfolding insert placeOf
+  passed-next orders laws t u e [] = λ j l. go j l
+    where
+      go : (j : ℕ) → j < 1 → isAfter (order u (stateAt (t ∷ []) j)) ≡ true
+      go zero l = ap isAfter (orders .turn t u ∙ ap turned e)
+      go (suc j) l = absurd (omega arith)
+  passed-next orders laws t u e (r ∷ T) = go (order t r) refl (passed-next orders laws t u e T)
+    where
+      first : order r u ≡ before → isAfter (order u r) ≡ true
+      first p = ap isAfter (orders .turn r u ∙ ap turned p)
+
+      go : (o : Order) → order t r ≡ o → Passed states u (insert order (plus states) t T) (suc (placeOf states t T))
+          → Passed states u (inserted order (plus states) o t r T (insert order (plus states) t T)) (suc (cond (isAfter o) (suc (placeOf states t T)) 0))
+      go before q ih zero l = ap isAfter (orders .turn t u ∙ ap turned e)
+      go before q ih (suc j) l = absurd (omega arith)
+      go same q ih zero l = ap isAfter (laws .right u r _) ∙ first (sym (orders .like t r u q) ∙ e)
+      go same q ih (suc j) l = absurd (omega arith)
+      go after q ih zero l = first (orders .onward r t u (orders .turn t r ∙ ap turned q) e)
+      go after q ih (suc j) l = ih j (le-of-suc-le-suc l)
+
+  pub place-below : (t : A) (T : List A) → suc (placeOf states t T) ≤ length (insert order (plus states) t T)
+  unfolding insert placeOf
+  place-below t [] = omega arith
+  place-below t (r ∷ T) = go (order t r) (place-below t T)
+    where
+      go : (o : Order) → suc (placeOf states t T) ≤ length (insert order (plus states) t T)
+          → suc (cond (isAfter o) (suc (placeOf states t T)) 0) ≤ length (inserted order (plus states) o t r T (insert order (plus states) t T))
+      go before h = omega arith
+      go same h = omega arith
+      go after h = omega arith
+
+  -- a table has no fewer states with what comes in
+  length-grows : (s : A) (T : List A) → length T ≤ length (insert order (plus states) s T)
+  unfolding insert
+  length-grows s [] = omega arith
+  length-grows s (t ∷ T) = go (order s t) (length-grows s T)
+    where
+      go : (o : Order) → length T ≤ length (insert order (plus states) s T) → suc (length T) ≤ length (inserted order (plus states) o s t T (insert order (plus states) s T))
+      go before h = omega arith
+      go same h = omega arith
+      go after h = omega arith
+
+  pub add-grows : (S T : List A) → length T ≤ length (add states S T)
+  unfolding add insertAll
+  add-grows [] T = omega arith
+  add-grows (s ∷ S) T = go (eqb (units s) 0) (add-grows S T) (add-grows S (insert order (plus states) s T))
+    where
+      go : (b : Bool) → length T ≤ length (insertAll order (plus states) (present states S) T)
+          → length (insert order (plus states) s T) ≤ length (insertAll order (plus states) (present states S) (insert order (plus states) s T))
+          → length T ≤ length (insertAll order (plus states) (cond b (present states S) (s ∷ present states S)) T)
+      go true h h′ = h
+      go false h h′ = omega (arith, h′, length-grows s T)
 
   -- ---- states of 0 units vanish
 

@@ -6,9 +6,9 @@ use Prim.Native.Nat.{ℕ, zero, suc, _+_, _-_, _*_, _≤_, _<_}
 use native.Mathlib.Omega.{arith}
 use lib.ListN.{length, take, drop, length-drop, drop-of-length-le}
 use lib.Seq.{take-all, take-at, take-take, drop-at, getD-take, getD-drop, length-take-le}
-use Rattle.rules.specs.Ordered.{rises}
-use Rattle.rules.specs.AnyTable.{Listing, add, at}
-use Rattle.tables.specs.Placing.{Added}
+use Rattle.rules.specs.Ordered.{rises, insert}
+use Rattle.rules.specs.AnyTable.{Listing, plus, add, at}
+use Rattle.tables.specs.Placing.{Inserted, Added}
 use Rattle.tables.specs.Rooms.{InScratch}
 use Rattle.tables.proofs.Reading.{Reading, fits-table}
 
@@ -77,6 +77,28 @@ module _ {A : Type 0} {tableOf : List ℕ → List A} (reads : Reading tableOf) 
       is : add states S (take n (tableOf (partFrom 20480 ws))) ≡ add states S (take n (drop 4096 (tableOf ws)))
       is = ap (λ (T : List A). add states S (take n T)) (part-table ws 4096)
 
+  -- so is a state that is inserted
+  pub lent-inserted : (states : Listing A) (s : A) (n r : ℕ) (ws ys : List ℕ) → 20480 ≤ length ws → Inserted states s n r (tableOf (partFrom 20480 ws)) (tableOf ys)
+      → InScratch (insert (states .order) (plus states) s (take n (drop 4096 (tableOf ws)))) r (tableOf ws) (tableOf (backFrom 20480 ws ys))
+  lent-inserted states s n r ws ys l a =
+      record {
+        count = a .count ∙ ap length is;
+        table = ap (take r) (back-scratch ws 4096 ys l) ∙ a .table ∙ is;
+        slots = back-slots ws 4096 ys l;
+      }
+    where
+      is : insert (states .order) (plus states) s (take n (tableOf (partFrom 20480 ws))) ≡ insert (states .order) (plus states) s (take n (drop 4096 (tableOf ws)))
+      is = ap (λ (T : List A). insert (states .order) (plus states) s (take n T)) (part-table ws 4096)
+
+  -- nothing is done
+  pub scratch-stays : (X : List A) (n : ℕ) (ws : List ℕ) → 20480 + n * 5 ≤ length ws → X ≡ take n (drop 4096 (tableOf ws)) → InScratch X n (tableOf ws) (tableOf ws)
+  scratch-stays X n ws l e =
+      record {
+        count = sym (ap length e ∙ length-take-le n (drop 4096 (tableOf ws)) (omega (arith, length-drop 4096 (tableOf ws), fits-table reads ws (4096 + n) (omega arith))));
+        table = sym e;
+        slots = refl;
+      }
+
 pub scratch-empty : {A : Type 0} (T : List A) → InScratch [] 0 T T
 scratch-empty T = record { count = refl; table = refl; slots = refl }
 
@@ -87,6 +109,9 @@ module _ {A : Type 0} (states : Listing A) (X : List A) (n : ℕ) (T₀ T : List
     where
       is : add states S (take n (drop 4096 T)) ≡ add states S X
       is = ap (λ (U : List A). add states S U) (g .table)
+
+  pub slot-same : (from m : ℕ) → from + m ≤ 4096 → take m (drop from T) ≡ take m (drop from T₀)
+  slot-same from m l = stretch-kept from m 4096 T₀ T l (g .slots)
 
   pub scratch-rising : rises (states .order) X ≡ true → rises (states .order) (take n (drop 4096 T)) ≡ true
   scratch-rising h = rw (g .table) h

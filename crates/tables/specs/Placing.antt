@@ -2,10 +2,10 @@
 use mathlib.Core.Path.{_≡_}
 use mathlib.Core.Bool.{Bool, true, false, cond}
 use mathlib.Core.List.{List, [], _∷_}
-use Prim.Native.Nat.{ℕ, suc}
+use Prim.Native.Nat.{ℕ, suc, _<_}
 use lib.ListN.{length, take}
 use Rattle.rules.specs.Ordered.{Order, before, same, after, insert}
-use Rattle.rules.specs.AnyTable.{Listing, plus, add}
+use Rattle.rules.specs.AnyTable.{Listing, plus, add, at}
 
 -- the first of the two stands after the second
 abbrev pub isAfter : Order → Bool
@@ -24,6 +24,10 @@ module _ {A : Type 0} (l : Listing A) where
   unfoldable pub placeOf : A → List A → ℕ
   placeOf s [] = 0
   placeOf s (t ∷ T) = cond (isAfter (l .order s t)) (suc (placeOf s T)) 0
+
+  -- s stands after the first i states
+  abbrev pub Passed : A → List A → ℕ → Type 0
+  Passed s T i = (j : ℕ) → j < i → isAfter (l .order s (at l T j)) ≡ true
 
   -- s is inserted
   pub record Inserted (s : A) (n r : ℕ) (T T′ : List A) : Type 0 where

@@ -9,7 +9,8 @@ use Rattle.words.specs.BestTables.{tableOf}
 use Rattle.words.proofs.BestTables.{fits-table}
 use Rattle.rules.specs.Best.{listing}
 use Rattle.rules.proofs.Best.{best-orders}
-use Rattle.tables.proofs.Insertion.{Passed, Stopped, seek-start, seek-up, seek-down, seek-end}
+use Rattle.tables.specs.Placing.{Passed}
+use Rattle.tables.proofs.Insertion.{Stopped, seek-start, seek-up, seek-down, seek-end}
 use borrow.Author.Needs.{needs}
 use Rattle.best.proofs.placing.seek.Statement.{statement}
 use Rattle.best.proofs.placing.seek.Tie as tie

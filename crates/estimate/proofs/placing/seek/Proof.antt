@@ -4,45 +4,46 @@ use Prim.Native.Nat.{_-_, _≤_}
 use native.Mathlib.Omega.{arith}
 use denote.Ref.{now}
 use lib.ListN.{take}
-use mathlib.Core.Path.{_≡_}
+use mathlib.Core.Path.{_≡_, refl}
 use Rattle.words.specs.Tables.{tableOf}
 use Rattle.words.proofs.Tables.{fits-table}
+use Rattle.estimate.specs.Placing.{Passed}
 use Rattle.rules.specs.Table.{listing}
 use Rattle.rules.proofs.Ordered.{state-orders}
-use Rattle.tables.proofs.Insertion.{Passed, Stopped, seek-start, seek-up, seek-down, seek-end}
+use Rattle.tables.proofs.Insertion.{Stopped, seek-start, seek-up, seek-down, seek-end}
 use borrow.Author.Needs.{needs}
 use Rattle.estimate.proofs.placing.seek.Statement.{statement}
 use Rattle.estimate.proofs.placing.seek.Tie as tie
 
 abbrev Inv-loop : tie.InvT-loop
-Inv-loop words n s low₀ high₀ low high = (low ≤ high) × (high ≤ n) × Passed listing s (take n (tableOf words)) low × Stopped listing s (take n (tableOf words)) high
+Inv-loop words from n s low₀ high₀ low high = (low ≤ high) × (high ≤ n) × Passed s (take n (tableOf words)) low × Stopped listing s (take n (tableOf words)) high
 
 abbrev μ-loop : tie.MeasureT-loop
-μ-loop words n s low₀ high₀ low high = high - low
+μ-loop words from n s low₀ high₀ low high = high - low
 
 loop-holds : tie.Need-loop-holds Inv-loop μ-loop
 loop-holds c = let a = c .before .args in
     let start = seek-start listing (a .s) (a .n) (tableOf (now (a .words))) (fits-table (now (a .words)) (a .n) (omega arith)) in
-    (search needs, search needs, start .0, start .1)
+    (search needs, search needs, c .before .pre .3, start .1)
 
 loop-again : tie.Need-loop-again Inv-loop μ-loop
-loop-again c = let b = c .before .before .before .before in
+loop-again c = let b = c .before .before .before in
     let a = b .before .before .args in (
       omega arith,
       search needs,
       seek-up listing (a .s) (a .n) (tableOf (now (a .words))) (fits-table (now (a .words)) (a .n) (omega arith)) _ _ _ (omega arith)
-          (c .before .before .load .ensures) (c .before .is-after .ensures) state-orders (b .before .before .pre .1) (c .if1 .taken),
+          refl (c .before .is-behind .ensures) state-orders (b .before .before .pre .2) (c .if1 .taken),
       b .loop .inv .3,
     )
 
 loop-again-2 : tie.Need-loop-again-2 Inv-loop μ-loop
-loop-again-2 c = let b = c .before .before .before .before in
+loop-again-2 c = let b = c .before .before .before in
     let a = b .before .before .args in (
       omega arith,
       omega arith,
       b .loop .inv .2,
       seek-down listing (a .s) (a .n) (tableOf (now (a .words))) (fits-table (now (a .words)) (a .n) (omega arith)) _ _ _ (omega arith)
-          (c .before .before .load .ensures) (c .before .is-after .ensures) (c .if1 .left),
+          refl (c .before .is-behind .ensures) (c .if1 .left),
     )
 
 returns : tie.Need-returns Inv-loop μ-loop
@@ -60,7 +61,6 @@ seek-spec =
     loop-holds
     (λ c. search needs)
     (λ c. search needs)
-    (λ c κs. search needs)
     (λ c κs. search needs)
     (λ c. search needs)
     (λ c. search needs)

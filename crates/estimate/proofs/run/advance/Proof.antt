@@ -32,6 +32,7 @@ gather-requires c κs =
       p .room,
       p .aside,
       workable (a .cache .ways) (a .cache .sets) (now (a .tracked)) (p .ranges .few-ways) _ (aims (c .before .before)) (a .limit) 4095 _ (omega arith) (p .table),
+      p .table .rises,
     )
 
 settle-requires : tie.Need-settle-requires

@@ -1,4 +1,4 @@
--- `gather` takes the states one by one. The invariant of its loop: the scratch holds what follows the states passed, added, and the count has
+-- `gather_each` takes the states one by one. The invariant of its loop: the scratch holds what follows the states passed, added, and the count has
 -- what was left over of them.
 use mathlib.Core.Path.{_≡_, refl, _∙_}
 use Prim.Native.Nat.{_-_, _*_, _≤_}
@@ -16,8 +16,8 @@ use Rattle.rules.proofs.Table.{states-lawful}
 use Rattle.tables.proofs.Following.{gathered, gathered-none, gathered-rising, gathered-next, gathered-room, gathered-all}
 use Rattle.estimate.proofs.Following.{follows-few, asideTo, aside-start, aside-next, aside-all, workable-at}
 use borrow.Author.Needs.{needs}
-use Rattle.estimate.proofs.access.gather.Statement.{statement}
-use Rattle.estimate.proofs.access.gather.Tie as tie
+use Rattle.estimate.proofs.access.gather_each.Statement.{statement}
+use Rattle.estimate.proofs.access.gather_each.Tie as tie
 
 abbrev Inv-loop : tie.InvT-loop
 Inv-loop work₀ from m x ways n₀ count₀ i₀ work n count i =
@@ -71,8 +71,8 @@ returns c = let l = c .before .loop in
     let short : length S ≤ l .i = omega (arith, length-take (a .m) (drop (a .from) (tableOf (now (a .work))))) in
     (rw (← gathered-all listing (successors (a .ways) (a .x)) S (l .i) short) (l .inv .2), l .inv .3 ∙ aside-all (a .ways) (a .x) S _ (l .i) short)
 
-pub gather-spec : {M : Type 1} → statement M
-gather-spec =
+pub gather-each-spec : {M : Type 1} → statement M
+gather-each-spec =
     tie.close
     (tie.spec
     Inv-loop
