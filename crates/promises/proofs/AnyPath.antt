@@ -190,7 +190,7 @@ module _ {A W : Type 0} {k : Kind A} {N : ℕ} {X : Target → Type 0} {P : ℕ 
 -- ---- the start
 
 -- node 0 has no predecessor: it starts from the start, and no last block is known
-no-predecessors : (i : Input) → Checked i → predecessors (edgesOf (i .edges)) 0 ≡ []
+pub no-predecessors : (i : Input) → Checked i → predecessors (edgesOf (i .edges)) 0 ≡ []
 no-predecessors i ok = none (predecessors (edgesOf (i .edges)) 0) (λ a e. predecessor-lower i ok a 0 e .0)
   where
     none : (is : List ℕ) → ((a : ℕ) → among is a ≡ true → a < 0) → is ≡ []
@@ -210,12 +210,12 @@ pub first-known : (i : Input) → Checked i → known i 0 ≡ unknown
 unfolding lastBefore
 first-known i ok = ap (lastBefore (lastsTo i 0)) (no-predecessors i ok)
 
-last-on : (o p : Last) (bs : List ℕ) → Vaguer o p → Vaguer (lastAfter o bs) (lastAfter p bs)
+pub last-on : (o p : Last) (bs : List ℕ) → Vaguer o p → Vaguer (lastAfter o bs) (lastAfter p bs)
 unfolding lastAfter
 last-on o p [] v = v
 last-on o p (b ∷ bs) v = inr refl
 
-last-append : (o : Last) (p q : List ℕ) → lastAfter o (p ++ q) ≡ lastAfter (lastAfter o p) q
+pub last-append : (o : Last) (p q : List ℕ) → lastAfter o (p ++ q) ≡ lastAfter (lastAfter o p) q
 unfolding lastAfter
 last-append o [] q = refl
 last-append o (b ∷ p) q = last-append (block b) p q

@@ -58,11 +58,21 @@ states-carry N Z ts some few =
     }
 
 -- a table is worth no less to a weight that is no less
-worth-more : (N Z : ℕ) (ts : List ℕ) (M : ℕ) (f g : Weight) → ((C m : ℕ) (F : Filled) → Room N Z ts C F → f C m F ≤ g C m F)
+pub worth-more : (N Z : ℕ) (ts : List ℕ) (M : ℕ) (f g : Weight) → ((C m : ℕ) (F : Filled) → Room N Z ts C F → f C m F ≤ g C m F)
     → (T : List State) → Every (Shaped N Z ts M) T → worth f T ≤ worth g T
 worth-more N Z ts M f g h [] s = le-refl 0
 worth-more N Z ts M f g h (t ∷ T) s =
     omega (arith, mul-le-mul-left (unitsOf t) (h (t .mask) (t .misses) (t .filled) (s .0 .0 .small)), worth-more N Z ts M f g h T (s .1))
+
+-- the run of a single node is all accesses
+pub whole-run : (i : Input) → Checked i → nodes i ≡ 1 → runOf i 0 ≡ i .accesses
+unfolding runOf offset
+whole-run i ok e = go (i .lengths) (i .accesses) e (ok .all-accesses)
+  where
+    go : (ns bs : List ℕ) → length ns ≡ 1 → sumOver (λ n. n) ns ≡ length bs → take (getD ns 0 0) (drop (sumOver (λ n. n) (take 0 ns)) bs) ≡ bs
+    go [] bs l s = absurd (omega arith)
+    go (n ∷ []) bs l s = let z : n ≡ length bs = omega arith in rw z (take-length bs)
+    go (n ∷ m ∷ ns) bs l s = absurd (omega arith)
 
 module _ (q : Entries) (i : Input) (ok : Checked i) where
   abbrev N : ℕ
@@ -91,16 +101,6 @@ module _ (q : Entries) (i : Input) (ok : Checked i) where
 
   -- ---- one node
 
-  -- its run is all accesses
-  whole-run : nodes i ≡ 1 → runOf i 0 ≡ i .accesses
-  unfolding runOf offset
-  whole-run e = go (i .lengths) (i .accesses) e (ok .all-accesses)
-    where
-      go : (ns bs : List ℕ) → length ns ≡ 1 → sumOver (λ n. n) ns ≡ length bs → take (getD ns 0 0) (drop (sumOver (λ n. n) (take 0 ns)) bs) ≡ bs
-      go [] bs l s = absurd (omega arith)
-      go (n ∷ []) bs l s = let z : n ≡ length bs = omega arith in rw z (take-length bs)
-      go (n ∷ m ∷ ns) bs l s = absurd (omega arith)
-
   -- so the finished table is what the accesses make of the start
   pub straight : nodes i ≡ 1 → finishedBy q i ≡ run N (i .sets) (i .limit) (i .tracked) unknown (i .accesses) (record { table = begin (atStart i); aside = 0 })
   unfolding finishedOf workedOf nodeOf
@@ -109,4 +109,4 @@ module _ (q : Entries) (i : Input) (ok : Checked i) where
       ∙ ap (λ (l : Last). run N (i .sets) (i .limit) (i .tracked) l (runOf i 0) (enterBy (behind (joinsTo (edgesOf (i .edges)) 0) q) (i .limit) (atStart i) (workedBy q i 0) (predecessors (edgesOf (i .edges)) 0)))
       (first-known i ok)
       ∙ ap (run N (i .sets) (i .limit) (i .tracked) unknown (runOf i 0)) (first-start states q (behind (joinsTo (edgesOf (i .edges)) 0) q) i ok)
-      ∙ ap (λ (bs : List ℕ). run N (i .sets) (i .limit) (i .tracked) unknown bs (record { table = begin (atStart i); aside = 0 })) (whole-run e)
+      ∙ ap (λ (bs : List ℕ). run N (i .sets) (i .limit) (i .tracked) unknown bs (record { table = begin (atStart i); aside = 0 })) (whole-run i ok e)

@@ -1,20 +1,19 @@
 -- A join by any pairing that uses each state's units exactly is worth no less than either table, to a weight that rises: each pair
--- has the shared blocks, the larger misses and the larger filled numbers.
+-- has the shared blocks, the larger misses and the larger filled numbers, and so is each of its two states weakened.
 use mathlib.Core.List.{List, [], _∷_}
 use Prim.Native.Nat.{ℕ, _*_, _≤_}
-use native.Mathlib.Nat.{le-max-left, le-max-right, mul-le-mul-left, add-le-add, le-refl}
+use native.Mathlib.Nat.{mul-le-mul-left, add-le-add, le-refl}
 use Rattle.basics.specs.Sums.{sumOver}
 use Rattle.rules.specs.declared.State.{State}
 use Rattle.rules.specs.Units.{whole}
 use Rattle.rules.specs.Table.{total, stateAt}
 use Rattle.rules.specs.Join.{Match, matched, paired}
 use Rattle.rules.specs.Shape.{Every, Shaped}
-use Rattle.rules.proofs.Contents.{sub-shared-left, sub-shared-right}
-use Rattle.rules.proofs.Filling.{fewer-left, fewer-right}
 use Rattle.rules.proofs.Table.{Weight, weightOf, worthOf, worth}
 use Rattle.rules.proofs.Fold.{loose-at}
 use Rattle.rules.proofs.Join.{Uses, matched-worth, paired-worth}
 use Rattle.promises.proofs.Value.{Rises}
+use Rattle.promises.proofs.Weaker.{weaker-weighs, meet-left, meet-right}
 
 -- by any pairing, where each pair weighs no less than the state on one side of it
 paired-above : (f : Weight) (P : List Match) (S T : List State) (side : Match → ℕ) (U : List State) → Uses side P U
@@ -34,7 +33,7 @@ module _ (N Z : ℕ) (ts : List ℕ) (M : ℕ) (f : Weight) (rises : Rises N Z t
       → (worth f S ≤ worth f (paired P S T)) × (worth f T ≤ worth f (paired P S T))
   pairing-above P l r = (
     paired-above f P S T (λ p. p .left) S l l full
-        (λ p. rises _ _ _ _ _ _ (sub-shared-left _ _) (le-max-left _ _) (fewer-left _ _) (loose-at N Z ts M (p .left) S a .small)),
+        (λ p. weaker-weighs N Z ts f rises _ _ (meet-left (stateAt S (p .left)) (stateAt T (p .right)) (p .units)) (loose-at N Z ts M (p .left) S a .small)),
     paired-above f P S T (λ p. p .right) T r l full
-        (λ p. rises _ _ _ _ _ _ (sub-shared-right _ _) (le-max-right _ _) (fewer-right _ _) (loose-at N Z ts M (p .right) T b .small)),
+        (λ p. weaker-weighs N Z ts f rises _ _ (meet-right (stateAt S (p .left)) (stateAt T (p .right)) (p .units)) (loose-at N Z ts M (p .right) T b .small)),
   )

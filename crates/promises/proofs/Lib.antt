@@ -4,7 +4,8 @@ pub mod Seen
 pub mod Value
 pub mod Safe
 pub mod Exact
--- What an access, a fold and a join do to the worth of a table
+-- One state weakened; what an access, a fold and a join do to the worth of a table
+pub mod Weaker
 pub mod Accesses
 pub mod Folds
 pub mod Joins

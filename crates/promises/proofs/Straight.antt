@@ -72,7 +72,7 @@ module _ (i : Input) (ok : Checked i) where
         (atStart i) unknown built (sub-zero _) fewer (λ b e. absurd (true≢false (sym e))) (le-of-eq fresh)
 
     -- where the rules say that all may be filled, that is any
-    machine-used : startsEmpty i ≡ false → (W : Weight) → Rises N (i .sets) (i .tracked) W → (p : List ℕ)
+    pub machine-used : startsEmpty i ≡ false → (W : Weight) → Rises N (i .sets) (i .tracked) W → (p : List ℕ)
         → total (seen v (i .tracked) W) v N c p ≤ ahead W p
     machine-used used = machine-from (λ j. all j (decLt j (i .sets)))
       where
@@ -97,7 +97,7 @@ module _ (i : Input) (ok : Checked i) where
   cold-filled e = start-filled ∙ rw e (ap (λ (b : Bool). evenly (i .sets) (cond b 0 N)) (sym (and-true (eqb (i .revision) 2))))
 
   -- from the start, whichever start is named
-  machine-start : (W : Weight) → Rises N (i .sets) (i .tracked) W → (p : List ℕ) → total (seen v (i .tracked) W) v N (start (i .sets) N) p ≤ ahead W p
+  pub machine-start : (W : Weight) → Rises N (i .sets) (i .tracked) W → (p : List ℕ) → total (seen v (i .tracked) W) v N (start (i .sets) N) p ≤ ahead W p
   machine-start = go (startsEmpty i) refl
     where
       built : Built (i .sets) N (start (i .sets) N)

@@ -232,6 +232,18 @@ module _ (N Z : ℕ) (ts : List ℕ) (few : N ≤ 16) where
         (room-moved N Z ts few x aim C i F room l h))
         (λ h. rises _ _ _ _ (more F) (more F) (sub-with 0 C y (sub-zero C)) (le-refl (suc m)) (λ j. le-refl _) (room-joined N Z ts few x aim C F room h))
 
+    -- where f is at most B, an access ahead is worth at most B for each way
+    pub ahead-most : (f : Weight) (B : ℕ) → ((D n : ℕ) (G : Filled) → Room N Z ts D G → f D n G ≤ B) → (C m : ℕ) (F : Filled) → Room N Z ts C F
+        → ahead N x f C m F ≤ N * B
+    ahead-most f B most C m F room = go (hits x C)
+      where
+        go : (a : Bool) → cond a (N * f C m F) (overWays N C (atRisk N x F C) (λ D. f (with D y) (suc m) (more F))) ≤ N * B
+        go true = mul-le-mul-left N (most C m F room)
+        go false =
+            overWays-most N C (atRisk N x F C) B (λ D. f (with D y) (suc m) (more F)) (room-risk N Z ts few x aim C F room)
+            (λ i l h. most _ _ (more F) (room-moved N Z ts few x aim C i F room l h))
+            (λ h. most _ _ (more F) (room-joined N Z ts few x aim C F room h))
+
   pub value-rises : (W : Weight) → Rises N Z ts W → (p : List Target) → Every (Aimed Z ts) p → Rises N Z ts (value W N p)
   unfolding value
   value-rises W rises [] aim = rises
@@ -284,22 +296,8 @@ module _ (N Z : ℕ) (ts : List ℕ) (few : N ≤ 16) where
       → Room N Z ts C F → value W N p C m F ≤ N ^ length p
   unfolding value
   value-most W most [] aim C m F room = rw (pow-zero N) (most C m F)
-  value-most W most (x ∷ p) aim C m F room = go (hits x C) (value-most W most p (aim .1))
-    where
-      v : Weight
-      v = value W N p
-
-      up : Filled
-      up = fillOne N (x .set) F
-
-      go : (a : Bool) → ((D n : ℕ) (G : Filled) → Room N Z ts D G → v D n G ≤ N ^ length p)
-          → cond a (N * v C m F) (overWays N C (atRisk N x F C) (λ D. v (with D (x .place)) (suc m) up)) ≤ N ^ suc (length p)
-      go true ih = rw (pow-succ' N (length p)) (mul-le-mul-left N (ih C m F room))
-      go false ih =
-          rw (pow-succ' N (length p))
-          (overWays-most N C (atRisk N x F C) (N ^ length p) (λ D. v (with D (x .place)) (suc m) up) (room-risk N Z ts few x (aim .0) C F room)
-          (λ i l h. ih _ _ up (room-moved N Z ts few x (aim .0) C i F room l h))
-          (λ h. ih _ _ up (room-joined N Z ts few x (aim .0) C F room h)))
+  value-most W most (x ∷ p) aim C m F room =
+      rw (pow-succ' N (length p)) (ahead-most x (aim .0) (value W N p) (N ^ length p) (value-most W most p (aim .1)) C m F room)
 
 -- along p and then q
 pub value-append : (W : Weight) (N : ℕ) (p q : List Target) → value W N (p ++ q) ≡ value (value W N q) N p

@@ -127,7 +127,7 @@ module _ (i : Input) (ok : Checked i) where
 
 -- ---- the misses
 
-shaped-largest : (N Z : ℕ) (ts : List ℕ) (M : ℕ) (T : List State) → Every (Shaped N Z ts M) T → largest T ≤ M
+pub shaped-largest : (N Z : ℕ) (ts : List ℕ) (M : ℕ) (T : List State) → Every (Shaped N Z ts M) T → largest T ≤ M
 unfolding largestOf
 shaped-largest N Z ts M [] h = zero-le
 shaped-largest N Z ts M (s ∷ T) h = max-le (h .0 .0 .few) (shaped-largest N Z ts M T (h .1))

@@ -93,7 +93,7 @@ pub counts-few : (n : ℕ) → among setCounts n ≡ true → n ≤ 16
 counts-few n h = among-every (λ m. m ≤ 16) setCounts n h (omega arith, (omega arith, (omega arith, (omega arith, (omega arith, tt)))))
 
 -- none of the graph call's reasons applies
-facts : (i : Input) → Every (λ r. r .applies ≡ false) (reasons i) → Checked i
+pub facts : (i : Input) → Every (λ r. r .applies ≡ false) (reasons i) → Checked i
 unfolding reasons
 facts i (w, (n, (v, (k, (t, (a, (g, (r, _)))))))) =
     let ways = within 1 16 (i .ways) w in

@@ -1,6 +1,5 @@
 -- `in_set` looks at the low bits of the block's number.
 use mathlib.Core.Path.{sym, _∙_}
-use native.Mathlib.Omega.{arith}
 use borrow.Author.Tests.{eq-eqb, ne-eqb}
 use Rattle.rules.proofs.Refusals.{counts-some}
 use Rattle.tables.proofs.Masks.{low-bits}

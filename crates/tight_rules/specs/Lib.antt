@@ -1,0 +1,13 @@
+-- What comes in
+pub mod Asked
+-- The table, and one access of a run
+pub mod Rows
+pub mod Reduction
+pub mod Ends
+pub mod Run
+-- Graphs
+pub mod Join
+pub mod Live
+pub mod Graph
+-- When the work says no
+pub mod Refusals
