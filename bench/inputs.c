@@ -916,29 +916,63 @@ static void make_wide_graph(struct input *input, uint32_t reach)
     }
 }
 
-/* All ties, and wide tables: in the second revision node 0 fills the cache with the tracked blocks, which is one state. From there each of 62 nodes accesses
- * four untracked blocks, which leaves up to 657 states before they are folded, many with as many units, misses and blocks as each other. The last node joins
- * them all. */
-static void make_ties(struct input *input)
+/* A fan of 64 nodes: node 0 with so many accesses, 62 nodes that follow it with so many each, and a last one, without any, that joins them all. */
+static void make_fan(struct input *input, size_t first, size_t each)
 {
-    make_straight_run(input, CYCLIC, 16 + 62 * 4, 16, 64);
-    input->revision = 2;
-    for (uint32_t i = 16; i < input->access_count; i++)
-        input->accesses[i] = 5000 + i;
+    input->access_count = first + 62 * each;
     input->nodes = 64;
     for (uint32_t node = 0; node < 64; node++)
-        input->runs[node] = node == 0 ? 16 : node == 63 ? 0 : 4;
+        input->runs[node] = node == 0 ? (uint32_t)first : node == 63 ? 0 : (uint32_t)each;
     for (uint32_t node = 1; node < 63; node++)
         add_edge(input, 0, node);
     for (uint32_t node = 1; node < 63; node++)
         add_edge(input, node, 63);
 }
 
+/* All ties, and wide tables: in the second revision node 0 fills the cache with the tracked blocks, which is one state. From there each of 62 nodes accesses
+ * four untracked blocks, which leaves up to 657 states before they are folded, many with as many units, misses and blocks as each other. */
+static void make_ties(struct input *input)
+{
+    make_straight_run(input, CYCLIC, 16, 16, 64);
+    input->revision = 2;
+    make_fan(input, 16, 4);
+    for (uint32_t i = 16; i < input->access_count; i++)
+        input->accesses[i] = 5000 + i;
+}
+
+/* The widest tables: an access that leaves 1,088 states, as many as there is room for, in each of 62 nodes. Two sets of 16 ways in the second revision. While
+ * no other tracked block is held, node 0 accesses the one of the odd set 250 times, each time after one to four untracked blocks, which may have evicted it: that
+ * leaves 64 states that hold it alone, each with another number of misses. Then it fills the even set with the other 15 tracked blocks and an untracked
+ * one, which evicts nothing. What follows is an untracked block of the even set: each state leaves one for each of the 15 blocks that it may lose, one that
+ * loses none, and one for the remainder, which none is without. */
+static void make_widest(struct input *input)
+{
+    struct generator from = generator_of(3, 2);
+    size_t at = 0;
+    make_straight_run(input, CYCLIC, 0, 16, 64);
+    input->sets = 2;
+    input->revision = 2;
+    for (uint32_t i = 0; i < 16; i++)
+        input->tracked[i] = i == 0 ? 1001 : 1000 + 2 * i;
+    for (size_t round = 0; round < 250; round++) {
+        uint32_t others = 1 + draw_below(&from, 4);
+        for (uint32_t i = 0; i < others; i++)
+            input->accesses[at++] = 2001 + 2 * (i % 2);
+        input->accesses[at++] = input->tracked[0];
+    }
+    for (uint32_t i = 1; i < 16; i++)
+        input->accesses[at++] = input->tracked[i];
+    input->accesses[at++] = 3000;
+    make_fan(input, at, 1);
+    while (at < input->access_count)
+        input->accesses[at++] = 3002;
+}
+
 const char *make_heavy_input(size_t which, struct input *input)
 {
     static const char *const names[HEAVY_INPUTS + GROWTH_INPUTS] = {
         "shuffled", "random", "cyclic", "random-8-ways", "random-limit-8", "graph-two-edges", "graph-all-edges",
-        "random-4-sets", "random-revision-2", "random-limit-1", "cyclic-2-ways", "graph-ties",
+        "random-4-sets", "random-revision-2", "random-limit-1", "cyclic-2-ways", "graph-ties", "graph-widest",
         "random-512", "random-1024", "random-2048", "random-4096",
     };
     if (which >= HEAVY_INPUTS + GROWTH_INPUTS)
@@ -959,6 +993,8 @@ const char *make_heavy_input(size_t which, struct input *input)
         make_straight_run(input, CYCLIC, 4096, 2, 64);
     else if (which == 11)
         make_ties(input);
+    else if (which == 12)
+        make_widest(input);
     else
         make_straight_run(input, RANDOM, (size_t)512 << (which - HEAVY_INPUTS), 16, 64);
     return names[which];

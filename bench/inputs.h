@@ -79,7 +79,7 @@ void damage_text(struct generator *from, struct text *text);
 
 /* The heavy inputs by number from 0; those from HEAVY_INPUTS on are for growth, with rising numbers of accesses. Gives the name, or NULL
  * past the last. */
-#define HEAVY_INPUTS 12
+#define HEAVY_INPUTS 13
 #define GROWTH_INPUTS 4
 const char *make_heavy_input(size_t which, struct input *input);
 

@@ -13,7 +13,8 @@ use Rattle.best.specs.Tables.{noState, stateAt}
 use Rattle.best.specs.Rooms.{filled, slotOf, tableIn}
 use Rattle.best.specs.Call.{written}
 use Rattle.rules.specs.Best.{listing}
-use Rattle.tables.proofs.Nodes.{counted, zeros-rest, table-long}
+use Rattle.tables.proofs.Nodes.{counted, table-long}
+use Rattle.words.proofs.Handing.{zeros-rest}
 
 -- the states are carried one after the other; X are those that are, rs the room before
 pub carry-start : (X : List BestState) (rs : List ℕ) → rs ≡ wordsOf (take 0 X) ++ drop (0 * 5) rs

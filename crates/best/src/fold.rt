@@ -1,8 +1,8 @@
 // Folding a table down to the state limit.
+use crate::meeting::meet;
 use crate::memory::load;
 use crate::memory::store;
 use crate::placing::add;
-use crate::states::meet;
 use rules::BestState;
 use rules::Pair;
 use tables::size_of;

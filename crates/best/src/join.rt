@@ -1,7 +1,7 @@
 // Joining two tables: both from the front, as many units at a time as the smaller remaining amount allows.
+use crate::meeting::pair;
 use crate::memory::load;
 use crate::placing::add;
-use crate::states::pair;
 use rules::BestState;
 use rules::Hits;
 use rules::Misses;

@@ -15,11 +15,11 @@ mod finish;
 mod fold;
 mod graph;
 mod join;
+mod meeting;
 mod memory;
 mod placing;
 mod run;
 mod slots;
-mod states;
 
 // The best case's call: the finished table goes to `result`, five words a state, and `work` is used on the way.
 pub fn analyse_best(

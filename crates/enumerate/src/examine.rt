@@ -1,5 +1,7 @@
 // One graph, one state limit: the graph call is made, and its table held to every path's choice sequences.
 use crate::cache::found;
+use crate::calls::surest;
+use crate::calls::worst;
 use crate::cycles::hold_cycles;
 use crate::joined::examine_joined;
 use crate::numbers::TOO_LARGE;
@@ -22,8 +24,6 @@ use crate::sure::number_expected;
 use crate::sure::number_of;
 use crate::sure::states_of;
 use crate::table::total;
-use best::analyse_best;
-use estimate::analyse;
 use longest::longest_path;
 use rules::Cache;
 use rules::Length;
@@ -295,7 +295,7 @@ fn examine_paths(
 }
 
 // The finished table is the first `states` states of `result`. Of all paths the longest one has as many accesses as was told.
-pub(crate) fn examine_result(
+fn examine_result(
     result: &[u64],
     states: usize,
     best: &[u64],
@@ -330,7 +330,7 @@ pub(crate) fn examine_result(
 }
 
 // The accesses of the longest path; where it is refused, a number that no path has.
-pub(crate) fn accesses_of(answer: Length) -> u64 {
+fn accesses_of(answer: Length) -> u64 {
     match answer {
         Length::Accesses(accesses) => accesses,
         Length::Refused(_) => TOO_LARGE,
@@ -346,10 +346,42 @@ fn is_whole(table: &[u64]) -> bool {
 }
 
 // What the calls told of a graph.
-pub(crate) fn told_of(aside: Units, longest: u64) -> Told {
+fn told_of(aside: Units, longest: u64) -> Told {
     Told {
         aside: aside.0,
         longest,
+    }
+}
+
+// What a graph call answered and left in `result`, beside the best case's table.
+pub(crate) fn examine_answer(
+    answer: Outcome,
+    result: &[u64],
+    best: &[u64],
+    cache: Cache,
+    limit: u32,
+    tracked: &[u32],
+    runs: &[u32],
+    accesses: &[u32],
+    edges: &[u32],
+    report: Report,
+) -> Report {
+    let longest = accesses_of(longest_path(cache, limit, tracked, runs, accesses, edges));
+    match answer {
+        Outcome::Finished(states, aside) => examine_result(
+            result,
+            states,
+            best,
+            told_of(aside, longest),
+            cache,
+            limit,
+            tracked,
+            runs,
+            accesses,
+            edges,
+            report,
+        ),
+        Outcome::Refused(_) => report.compared(false),
     }
 }
 
@@ -365,33 +397,19 @@ fn examine_worst(
     report: Report,
 ) -> Report {
     let mut result: [u64; 320] = [0; 320];
-    let mut work: [u64; 25920] = [0; 25920];
-    let longest = accesses_of(longest_path(cache, limit, tracked, runs, accesses, edges));
-    match analyse(
+    let answer = worst(&mut result, cache, limit, tracked, runs, accesses, edges);
+    examine_answer(
+        answer,
+        &result,
+        best,
         cache,
         limit,
         tracked,
         runs,
         accesses,
         edges,
-        &mut result,
-        &mut work,
-    ) {
-        Outcome::Finished(states, aside) => examine_result(
-            &result,
-            states,
-            best,
-            told_of(aside, longest),
-            cache,
-            limit,
-            tracked,
-            runs,
-            accesses,
-            edges,
-            report,
-        ),
-        Outcome::Refused(_) => report.compared(false),
-    }
+        report,
+    )
 }
 
 // The best case's table is the first `states` states of `result`; none where it is refused.
@@ -416,7 +434,7 @@ fn examine_best(
     examine_worst(best, cache, limit, tracked, runs, accesses, edges, whole)
 }
 
-// Both tables with one state limit. The best case is asked of an empty cache, however this one is found.
+// Both tables with one state limit.
 fn examine(
     cache: Cache,
     limit: u32,
@@ -427,20 +445,8 @@ fn examine(
     report: Report,
 ) -> Report {
     let mut result: [u64; 320] = [0; 320];
-    let mut work: [u64; 25920] = [0; 25920];
     let called = report.called();
-    let answer = analyse_best(
-        cache.sets,
-        cache.ways,
-        cache.revision,
-        limit,
-        tracked,
-        runs,
-        accesses,
-        edges,
-        &mut result,
-        &mut work,
-    );
+    let answer = surest(&mut result, cache, limit, tracked, runs, accesses, edges);
     let expected = number_expected(cache, all_tracked(tracked, accesses));
     let answered = called.compared(number_of(answer) == expected);
     examine_best(

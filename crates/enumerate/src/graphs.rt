@@ -1,119 +1,101 @@
-// Small branching graphs. Edges are written from, to, from, to.
+// Small branching graphs.
+use crate::numbers::read;
 use crate::numbers::times;
+use crate::numbers::wide;
 use crate::report::Report;
-use crate::sweep::first_revision;
-use crate::sweep::one_set;
-use crate::sweep::second_revision;
-use crate::sweep::sweep;
-use crate::sweep::used;
+use crate::sweep::part;
+use crate::sweep::sweep_row;
 
-// One graph on one set, with one, two and three ways, and with some blocks untracked: every `stride`-th access list over three blocks.
-fn on_one_set(runs: &[u32], edges: &[u32], length: usize, stride: u64, report: Report) -> Report {
-    let one = sweep(
-        one_set(1),
-        &[1, 2, 3],
-        3,
-        runs,
-        edges,
-        length,
-        stride,
-        report,
-    );
-    let two = sweep(one_set(2), &[3, 1, 2], 3, runs, edges, length, stride, one);
-    let three = sweep(one_set(3), &[2, 3, 1], 3, runs, edges, length, stride, two);
-    sweep(one_set(2), &[2], 3, runs, edges, length, stride, three)
-}
+// The edges of a graph: how many numbers there are, and they, from, to, from, to.
+const EDGES: [[u32; 17]; 5] = [
+    // Nodes 1 and 2 between 0 and 3: the two sides of a branch.
+    [8, 0, 1, 0, 2, 1, 3, 2, 3, 0, 0, 0, 0, 0, 0, 0, 0],
+    // Three predecessors at the last node.
+    [12, 0, 1, 0, 2, 0, 3, 1, 4, 2, 4, 3, 4, 0, 0, 0, 0],
+    // An edge from node 0 to node 2 passes node 1 by.
+    [6, 0, 1, 0, 2, 1, 2, 0, 0, 0, 0, 0, 0, 0, 0, 0, 0],
+    // Two branches one after the other.
+    [16, 0, 1, 0, 2, 1, 3, 2, 3, 3, 4, 3, 5, 4, 6, 5, 6],
+    // No branch.
+    [4, 0, 1, 1, 2, 0, 0, 0, 0, 0, 0, 0, 0, 0, 0, 0, 0],
+];
 
-// The second revision, on one set, two and four.
-fn on_second(runs: &[u32], edges: &[u32], length: usize, stride: u64, report: Report) -> Report {
-    let one = second_revision(1, 2);
-    let two = second_revision(2, 2);
-    let four = second_revision(4, 2);
-    let few = times(stride, 11);
-    let all = sweep(one, &[3, 1, 2], 3, runs, edges, length, stride, report);
-    let some = sweep(two, &[2, 3], 3, runs, edges, length, stride, all);
-    sweep(four, &[5, 1, 2], 5, runs, edges, length, few, some)
-}
+// A row for each graph: its edges, as a place above; the accesses of all nodes; how far apart the access lists are that are taken; how many nodes there are, and
+// the run length of each.
+const GRAPHS: [[u32; 11]; 12] = [
+    [0, 4, 1, 4, 1, 1, 1, 1, 0, 0, 0],
+    [0, 3, 1, 4, 1, 1, 0, 1, 0, 0, 0],
+    [0, 6, 7, 4, 2, 1, 2, 1, 0, 0, 0],
+    [0, 6, 11, 4, 0, 2, 2, 2, 0, 0, 0],
+    [0, 3, 1, 4, 1, 0, 0, 2, 0, 0, 0],
+    [1, 5, 2, 5, 1, 1, 1, 1, 1, 0, 0],
+    [1, 6, 13, 5, 2, 1, 2, 0, 1, 0, 0],
+    [2, 3, 1, 3, 1, 1, 1, 0, 0, 0, 0],
+    [2, 6, 7, 3, 2, 2, 2, 0, 0, 0, 0],
+    [3, 7, 41, 7, 1, 1, 1, 1, 1, 1, 1],
+    [3, 0, 1, 7, 0, 0, 0, 0, 0, 0, 0],
+    [4, 3, 1, 3, 1, 0, 2, 0, 0, 0, 0],
+];
 
-// Used caches, of both revisions.
-fn on_used(runs: &[u32], edges: &[u32], length: usize, stride: u64, report: Report) -> Report {
-    let first = used(2, 2, 1);
-    let second = used(1, 2, 2);
-    let all = sweep(first, &[3, 1, 2], 3, runs, edges, length, stride, report);
-    sweep(second, &[2, 3], 3, runs, edges, length, stride, all)
-}
+// A row for each cache that every graph is examined on, as sweep.rt has them, and one number more: how many times as far apart the access lists are.
+const CACHES: [[u32; 11]; 12] = [
+    // One set, with one, two and three ways, and with some blocks untracked.
+    [1, 1, 1, 0, 3, 1, 2, 3, 0, 3, 1],
+    [1, 2, 1, 0, 3, 3, 1, 2, 0, 3, 1],
+    [1, 3, 1, 0, 3, 2, 3, 1, 0, 3, 1],
+    [1, 2, 1, 0, 1, 2, 0, 0, 0, 3, 1],
+    // Two and four sets: 1 and 3 belong to one of the two, 1 and 5 to one of the four.
+    [2, 2, 1, 0, 3, 3, 1, 2, 0, 3, 1],
+    [2, 2, 1, 0, 2, 1, 2, 0, 0, 3, 1],
+    [4, 1, 1, 0, 2, 5, 1, 0, 0, 5, 11],
+    // The second revision, on one set, two and four.
+    [1, 2, 2, 0, 3, 3, 1, 2, 0, 3, 1],
+    [2, 2, 2, 0, 2, 2, 3, 0, 0, 3, 1],
+    [4, 2, 2, 0, 3, 5, 1, 2, 0, 5, 11],
+    // Used caches, of both revisions.
+    [2, 2, 1, 1, 3, 3, 1, 2, 0, 3, 1],
+    [1, 2, 2, 1, 2, 2, 3, 0, 0, 3, 1],
+];
 
-// And on two and four sets: 1 and 3 belong to one of the two, 1 and 5 to one of the four.
-fn graph(runs: &[u32], edges: &[u32], length: usize, stride: u64, report: Report) -> Report {
-    let two = first_revision(2, 2);
-    let four = first_revision(4, 1);
-    let one = on_one_set(runs, edges, length, stride, report);
-    let all = sweep(two, &[3, 1, 2], 3, runs, edges, length, stride, one);
-    let some = sweep(two, &[1, 2], 3, runs, edges, length, stride, all);
-    let sets = sweep(
-        four,
-        &[5, 1],
-        5,
-        runs,
-        edges,
-        length,
-        times(stride, 11),
-        some,
-    );
-    let second = on_second(runs, edges, length, stride, sets);
-    on_used(runs, edges, length, stride, second)
-}
-
-// Nodes 1 and 2 between 0 and 3: the two sides of a branch.
-fn diamond(runs: &[u32], length: usize, stride: u64, report: Report) -> Report {
-    graph(runs, &[0, 1, 0, 2, 1, 3, 2, 3], length, stride, report)
-}
-
-fn diamonds(report: Report) -> Report {
-    let single = diamond(&[1, 1, 1, 1], 4, 1, report);
-    let one_empty = diamond(&[1, 1, 0, 1], 3, 1, single);
-    let uneven = diamond(&[2, 1, 2, 1], 6, 7, one_empty);
-    let late = diamond(&[0, 2, 2, 2], 6, 11, uneven);
-    diamond(&[1, 0, 0, 2], 3, 1, late)
-}
-
-// Three predecessors at the last node.
-fn three_sides(runs: &[u32], length: usize, stride: u64, report: Report) -> Report {
-    graph(
-        runs,
-        &[0, 1, 0, 2, 0, 3, 1, 4, 2, 4, 3, 4],
-        length,
+// A graph with the edges of a row, on the cache of a row.
+fn on_cache(row: &[u32], graph: &[u32], edges: &[u32], report: Report) -> Report {
+    let stride = times(wide(read(graph, 2)), wide(read(row, 10)));
+    sweep_row(
+        row,
+        part(graph, 4, read(graph, 3)),
+        part(edges, 1, read(edges, 0)),
+        read(graph, 1) as usize,
         stride,
         report,
     )
 }
 
-// An edge from node 0 to node 2 passes node 1 by.
-fn passed_by(runs: &[u32], length: usize, stride: u64, report: Report) -> Report {
-    graph(runs, &[0, 1, 0, 2, 1, 2], length, stride, report)
+// The same on each of the caches.
+fn on_caches(graph: &[u32], edges: &[u32], report: Report) -> Report {
+    let mut done = report;
+    let mut i: usize = 0;
+    while i < 12 {
+        done = on_cache(&CACHES[i], graph, edges, done);
+        i += 1;
+    }
+    done
 }
 
-// Two branches one after the other.
-fn twice(runs: &[u32], length: usize, stride: u64, report: Report) -> Report {
-    graph(
-        runs,
-        &[0, 1, 0, 2, 1, 3, 2, 3, 3, 4, 3, 5, 4, 6, 5, 6],
-        length,
-        stride,
-        report,
-    )
-}
-
-fn others(report: Report) -> Report {
-    let sides = three_sides(&[1, 1, 1, 1, 1], 5, 2, report);
-    let longer = three_sides(&[2, 1, 2, 0, 1], 6, 13, sides);
-    let passed = passed_by(&[1, 1, 1], 3, 1, longer);
-    let far = passed_by(&[2, 2, 2], 6, 7, passed);
-    let branches = twice(&[1, 1, 1, 1, 1, 1, 1], 7, 41, far);
-    let empty = twice(&[0, 0, 0, 0, 0, 0, 0], 0, 1, branches);
-    graph(&[1, 0, 2], &[0, 1, 1, 2], 3, 1, empty)
+// A graph with the edges that it names.
+fn with_edges(graph: &[u32], report: Report) -> Report {
+    let named = read(graph, 0) as usize;
+    if 4 < named {
+        return report.compared(false);
+    }
+    on_caches(graph, &EDGES[named], report)
 }
 
 pub(crate) fn all_graphs(report: Report) -> Report {
-    others(diamonds(report))
+    let mut done = report;
+    let mut i: usize = 0;
+    while i < 12 {
+        done = with_edges(&GRAPHS[i], done);
+        i += 1;
+    }
+    done
 }

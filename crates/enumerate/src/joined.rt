@@ -1,7 +1,6 @@
 // A graph whose first join is by a random pairing (see pairs.rt), held to every path's choice sequences as it is without one.
-use crate::examine::accesses_of;
-use crate::examine::examine_result;
-use crate::examine::told_of;
+use crate::calls::paired;
+use crate::examine::examine_answer;
 use crate::numbers::less;
 use crate::numbers::plus;
 use crate::numbers::read;
@@ -9,13 +8,46 @@ use crate::pairs::first_join;
 use crate::pairs::pair_all;
 use crate::pairs::units_of_node;
 use crate::report::Report;
-use estimate::analyse_paired;
-use longest::longest_path;
+use pairings::NONE;
 use rules::Cache;
-use rules::Outcome;
 
-// For a join: no pairing.
-const NONE: u64 = 18446744073709551615;
+// The call with a pairing or none for each join.
+fn examine_pairing(
+    cache: Cache,
+    limit: u32,
+    tracked: &[u32],
+    runs: &[u32],
+    accesses: &[u32],
+    edges: &[u32],
+    counts: &[u64],
+    rows: &[u64],
+    report: Report,
+) -> Report {
+    let mut result: [u64; 320] = [0; 320];
+    let answer = paired(
+        &mut result,
+        cache,
+        limit,
+        tracked,
+        runs,
+        accesses,
+        edges,
+        counts,
+        rows,
+    );
+    examine_answer(
+        answer,
+        &result,
+        &[],
+        cache,
+        limit,
+        tracked,
+        runs,
+        accesses,
+        edges,
+        report,
+    )
+}
 
 // The call with the first `many` rows for the first join, and none for a second one.
 fn examine_rows(
@@ -30,8 +62,6 @@ fn examine_rows(
     joins: usize,
     report: Report,
 ) -> Report {
-    let mut result: [u64; 320] = [0; 320];
-    let mut work: [u64; 25920] = [0; 25920];
     let counts: [u64; 2] = [many as u64, NONE];
     if 144 < many {
         return report.compared(false);
@@ -43,8 +73,7 @@ fn examine_rows(
     if rows.len() < end {
         return report.compared(false);
     }
-    let longest = accesses_of(longest_path(cache, limit, tracked, runs, accesses, edges));
-    match analyse_paired(
+    examine_pairing(
         cache,
         limit,
         tracked,
@@ -53,24 +82,8 @@ fn examine_rows(
         edges,
         &counts[0..joins],
         &rows[0..end],
-        &mut result,
-        &mut work,
-    ) {
-        Outcome::Finished(states, aside) => examine_result(
-            &result,
-            states,
-            &[],
-            told_of(aside, longest),
-            cache,
-            limit,
-            tracked,
-            runs,
-            accesses,
-            edges,
-            report,
-        ),
-        Outcome::Refused(_) => report.compared(false),
-    }
+        report,
+    )
 }
 
 // How many joins a graph has: one for each edge but the first to a node.

@@ -23,6 +23,7 @@ use crate::report::nothing_yet;
 use crate::straight::all_straight;
 
 mod cache;
+mod calls;
 mod cores;
 mod cycles;
 mod examine;

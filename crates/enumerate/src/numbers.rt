@@ -93,3 +93,7 @@ pub(crate) fn read(list: &[u32], at: usize) -> u32 {
     }
     0
 }
+
+pub(crate) fn wide(n: u32) -> u64 {
+    n as u64
+}

@@ -1,6 +1,7 @@
 // Random pairings that are accepted (document 02, request 11/13). The first join of a graph is handed one, the others none, and the finished table is held to every path and
 // budget. Before the first join there is one path to a node, so that the join's two tables are those of straight runs; states that have units left are taken
 // at random, and some or all of the units that both have.
+use crate::calls::worst;
 use crate::numbers::digit;
 use crate::numbers::less;
 use crate::numbers::plus;
@@ -9,7 +10,6 @@ use crate::numbers::times;
 use crate::paths::collect;
 use crate::paths::is_path;
 use crate::paths::sets_of;
-use estimate::analyse;
 use rules::Cache;
 use rules::Outcome;
 
@@ -205,17 +205,8 @@ fn straight_table(
         return 0;
     }
     let end = length as usize;
-    let mut work: [u64; 25920] = [0; 25920];
-    match analyse(
-        cache,
-        limit,
-        tracked,
-        &[length as u32],
-        &path[0..end],
-        &[],
-        result,
-        &mut work,
-    ) {
+    let runs: [u32; 1] = [length as u32];
+    match worst(result, cache, limit, tracked, &runs, &path[0..end], &[]) {
         Outcome::Finished(states, _) => states,
         Outcome::Refused(_) => 0,
     }

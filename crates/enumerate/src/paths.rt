@@ -2,6 +2,7 @@
 // taken in rising order: bit j of `chosen` says that node j is on it.
 use crate::numbers::plus;
 use crate::numbers::read;
+use crate::numbers::wide;
 
 // A node that no graph here has.
 const NOWHERE: u32 = 99;
@@ -109,8 +110,4 @@ pub(crate) fn collect(path: &mut [u32], chosen: u64, runs: &[u32], accesses: &[u
         node += 1;
     }
     size
-}
-
-fn wide(n: u32) -> u64 {
-    n as u64
 }

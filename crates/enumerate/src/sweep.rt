@@ -1,45 +1,44 @@
-// Many access lists for one graph.
+// Many access lists for one graph, on a cache that a row of numbers tells.
 use crate::examine::examine_limits;
 use crate::numbers::digit;
 use crate::numbers::other_digits;
 use crate::numbers::power;
+use crate::numbers::read;
+use crate::numbers::wide;
 use crate::report::Report;
 use rules::Cache;
 use rules::Start;
 
-// An empty cache of the first revision.
-pub(crate) fn first_revision(sets: u32, ways: u32) -> Cache {
+// How the cache is found: 1 says that it was used.
+fn start_of(used: u32) -> Start {
+    if used == 1 {
+        return Start::Warm;
+    }
+    Start::Cold
+}
+
+// The cache of a row.
+fn cache_of(row: &[u32]) -> Cache {
+    let start = start_of(read(row, 3));
     Cache {
-        sets,
-        ways,
-        revision: 1,
-        start: Start::Cold,
+        sets: read(row, 0),
+        ways: read(row, 1),
+        revision: read(row, 2),
+        start,
     }
 }
 
-// An empty cache of the second revision, which fills empty ways first.
-pub(crate) fn second_revision(sets: u32, ways: u32) -> Cache {
-    Cache {
-        sets,
-        ways,
-        revision: 2,
-        start: Start::Cold,
+// The `count` numbers of a list from place `from` on; none where it has fewer.
+pub(crate) fn part<'a>(list: &'a [u32], from: usize, count: u32) -> &'a [u32] {
+    let n = count as usize;
+    if list.len() < from {
+        return &list[0..0];
     }
-}
-
-// A used cache.
-pub(crate) fn used(sets: u32, ways: u32, revision: u32) -> Cache {
-    Cache {
-        sets,
-        ways,
-        revision,
-        start: Start::Warm,
+    if list.len() - from < n {
+        return &list[0..0];
     }
-}
-
-// A cache of one set, as document 01 has it.
-pub(crate) fn one_set(ways: u32) -> Cache {
-    first_revision(1, ways)
+    let end = from + n;
+    &list[from..end]
 }
 
 // Block numbers are 1 and up.
@@ -129,4 +128,28 @@ pub(crate) fn sweep(
         number += 1;
     }
     done
+}
+
+// The same on the cache of a row, whose numbers are: the sets, the ways, the revision, and 1 where the cache is used; how many blocks are tracked, and four numbers, the first of
+// which are they; how many blocks there are.
+pub(crate) fn sweep_row(
+    row: &[u32],
+    runs: &[u32],
+    edges: &[u32],
+    length: usize,
+    stride: u64,
+    report: Report,
+) -> Report {
+    let tracked = part(row, 5, read(row, 4));
+    let blocks = wide(read(row, 9));
+    sweep(
+        cache_of(row),
+        tracked,
+        blocks,
+        runs,
+        edges,
+        length,
+        stride,
+        report,
+    )
 }

@@ -1,45 +1,24 @@
--- What a call leaves: the finished table is that of the last slot, and the answer goes with it.
+-- What a call leaves: the finished table is that of the last slot, and the entries for its joins have the form or not. The answers are in calls/proofs/Leaving.
 use mathlib.Core.Path.{_≡_, refl, sym, ap, _∙_}
 use mathlib.Core.Bool.{Bool, true, false}
 use mathlib.Core.List.{List, []}
 use Prim.Native.Nat.{ℕ, _-_, _/_, _≤_, _<_}
 use native.Mathlib.Omega.{arith}
-use lib.ListN.{length, replicate}
+use lib.ListN.{length}
 use Rattle.rules.specs.declared.Cache.{Cache}
 use Rattle.rules.specs.declared.State.{State}
-use Rattle.rules.specs.declared.Refusal.{Refusal}
-use Rattle.rules.specs.declared.Refusal.the-variants.{Pairing}
-use Rattle.rules.specs.declared.Verdict.{Verdict}
-use Rattle.rules.specs.declared.Verdict.the-variants.{Accepted, Refused}
-use Rattle.rules.specs.declared.Outcome.the-variants.{Finished, Refused as RefusedOutcome}
-use Rattle.rules.specs.Units.{units}
 use Rattle.rules.specs.Input.{Input, inputOf, nodes, edgesOf, joinsTo}
 use Rattle.rules.specs.AnyTable.{Entries, finishedBy as finishedAny}
-use Rattle.rules.specs.Graph.{Worked, tableAt, workedBy, finishedBy, finished, allFit}
-use Rattle.rules.specs.Refusals.{verdict, outcome}
-use Rattle.rules.specs.Entries.{rowsTold, entryOf, inForm, joinsOf, entriesFit, pairedOutcome}
+use Rattle.rules.specs.Graph.{Worked, tableAt, workedBy, finishedBy, allFit}
+use Rattle.rules.specs.Entries.{rowsTold, entryOf, inForm, joinsOf, entriesFit}
 use Rattle.rules.proofs.Refusals.{Checked}
 use Rattle.rules.proofs.Rooms.{same-worked, same-fit}
-use Rattle.rules.proofs.Entries.{Formed, formed, paired-refused, paired-judged, never-nineteen}
+use Rattle.rules.proofs.Entries.{Formed, formed}
 use Rattle.rules.proofs.Graph.{finished-table, node-table}
 use Rattle.estimate.specs.Rooms.{tableIn, workedIn}
-use Rattle.estimate.specs.Call.{written, handed, analysed, analysedPaired}
+use Rattle.estimate.specs.Call.{handed}
 use Rattle.rules.specs.Table.{listing}
 use Rattle.tables.proofs.Nodes.{tablesIn-at}
-
--- ---- the answer
-
-module _ (c : Cache) (K : ℕ) (ts ns bs es rs ws : List ℕ) where
-  pub leaves-refused : (v : Verdict) (r : Refusal) → v ≡ verdict (handed c K ts ns bs es rs ws) → v ≡ Refused r
-      → record { answer = RefusedOutcome r; result = rs; work = ws } ≡ analysed c K ts ns bs es rs ws
-  unfolding analysed outcome
-  leaves-refused v r e f = rw (← e, f) (rw (← e, f) refl)
-
-  pub leaves-finished : (n a : ℕ) (T : List State) (rs′ ws′ : List ℕ) → Accepted ≡ verdict (handed c K ts ns bs es rs ws) → T ≡ finished (handed c K ts ns bs es rs ws) .table
-      → a ≡ finished (handed c K ts ns bs es rs ws) .aside → n ≡ length T → rs′ ≡ written T (length rs) → ws′ ≡ replicate (length ws) 0
-      → record { answer = Finished n (units a); result = rs′; work = ws′ } ≡ analysed c K ts ns bs es rs ws
-  unfolding analysed outcome
-  leaves-finished n a T rs′ ws′ v t b m p q = rw (← v) (rw (← v, p, q, m, t, b) refl)
 
 -- the last slot holds the finished table
 module _ (c : Cache) (K : ℕ) (ts ns bs es rs ws : List ℕ) (a : ℕ) (T : List State) (some : 0 < length ns)
@@ -60,28 +39,11 @@ finished-fits q i ok = rw (finished-table q i (ok .some-nodes)) (node-table q i 
 
 -- ---- with pairings
 
+-- the entries have the form or not, and are accepted or not
 module _ (c : Cache) (K : ℕ) (ts ns bs es qs ps rs ws : List ℕ) where
   abbrev input : Input
   input = handed c K ts ns bs es rs ws
 
-  -- the graph itself is refused
-  pub paired-refused-so : (v : Verdict) (r : Refusal) → v ≡ verdict input → v ≡ Refused r → record { answer = RefusedOutcome r; result = rs; work = ws } ≡ analysedPaired c K ts ns bs es qs ps rs ws
-  unfolding analysedPaired pairedOutcome
-  paired-refused-so v r e f = rw (paired-refused input qs ps r (sym e ∙ f)) (rw (never-nineteen input r (sym e ∙ f)) refl)
-
-  -- the entries are not accepted
-  pub leaves-unfit : (ws′ : List ℕ) → Accepted ≡ verdict input → entriesFit input qs ps ≡ false → ws′ ≡ replicate (length ws) 0
-      → record { answer = RefusedOutcome Pairing; result = rs; work = ws′ } ≡ analysedPaired c K ts ns bs es qs ps rs ws
-  unfolding analysedPaired pairedOutcome
-  leaves-unfit ws′ v f q = rw (paired-judged input qs ps false (sym v) f, q)
-
-  pub leaves-paired : (n a : ℕ) (T : List State) (rs′ ws′ : List ℕ) → Accepted ≡ verdict input → entriesFit input qs ps ≡ true → T ≡ finishedBy (entryOf qs ps) input .table
-      → a ≡ finishedBy (entryOf qs ps) input .aside → n ≡ length T → rs′ ≡ written T (length rs) → ws′ ≡ replicate (length ws) 0
-      → record { answer = Finished n (units a); result = rs′; work = ws′ } ≡ analysedPaired c K ts ns bs es qs ps rs ws
-  unfolding analysedPaired pairedOutcome
-  leaves-paired n a T rs′ ws′ v f t b m p q = rw (paired-judged input qs ps true (sym v) f, p, q, m, t, b)
-
-  -- the entries have the form or not, and are accepted or not
   pub unformed : (f : Bool) → f ≡ inForm (joinsOf input) qs ps → f ≡ false → entriesFit input qs ps ≡ false
   unfolding entriesFit
   unformed f e z = rw (← e, z)

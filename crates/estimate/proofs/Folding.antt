@@ -1,4 +1,4 @@
--- Folding a table: the least units, and the first state that has them; what is set aside; how the search for a state's partner goes from place to place among the others, and that it
+-- Folding a table: the least units, and the first state that has them; how the search for a state's partner goes from place to place among the others, and that it
 -- may stop at one that none can beat (the other stops are Partnering's); and that the two replaced by what they become are a fold. What is the same for every kind of table is in
 -- tables/proofs/Folding. Tables are the first n states of a list.
 use mathlib.Core.Path.{_≡_, refl, sym, ap, _∙_}
@@ -6,13 +6,13 @@ use mathlib.Core.Bool.{Bool, true, false, cond, _&&_, _||_, not, true≢false}
 use mathlib.Core.Logic.{_≢_}
 use mathlib.Core.List.{List, [], _∷_}
 use Prim.Native.Nat.{ℕ, suc, _+_, _-_, _≤_, _<_, min}
-use native.Mathlib.Nat.{le-refl, le-antisymm}
+use native.Mathlib.Nat.{le-refl}
 use native.Mathlib.Decide.{ℕ-discrete, decLt, decLe}
 use native.Mathlib.Omega.{arith}
 use lib.Dec.{eqb, ltb, leb}
 use lib.ListN.{length, set, take, drop, length-set, length-drop}
 use lib.Seq.{getD-take, getD-drop, length-take-le, take-set-lt}
-use borrow.Author.Tests.{lt-ltb, le-ltb, eq-eqb, ne-eqb, eqb-true, leb-true, not-true}
+use borrow.Author.Tests.{lt-ltb, le-ltb, eq-eqb, eqb-true, leb-true, not-true}
 use Rattle.basics.proofs.Bools.{and-left, and-right}
 use Rattle.rules.specs.declared.State.{State}
 use Rattle.rules.specs.declared.Pair.{Pair}
@@ -31,7 +31,6 @@ use Rattle.rules.proofs.Fold.{firstOf, secondOf, meetOf}
 use Rattle.estimate.specs.Placing.{isSame, Added}
 use Rattle.estimate.specs.Rooms.{Stands}
 use Rattle.estimate.specs.Partners.{NoneMore, Fewest, Lowest, among, replaced, Replaced}
-use Rattle.estimate.proofs.Insertion.{same-tests}
 use Rattle.tables.proofs.Insertion.{is-same}
 use Rattle.tables.proofs.Folding.{other-within, Searched, search-turn, search-start, search-end, fewest-within, partner-within}
 
@@ -40,15 +39,6 @@ search-stop : (better : State → State → Bool) (R : List State) (k j : ℕ)
     → ((p : ℕ) → p < length R → better (stateAt R p) (stateAt R k) ≡ false) → Searched listing better R k j → best better R ≡ k
 search-stop better R k j none h =
     h ∙ stays better noState (stateAt R k) k j (drop j R) (λ p l. rw (getD-drop j R p noState) (none (j + p) (omega (arith, l, length-drop j R))))
-
--- ---- what is set aside
-
-module _ (s m : State) (r : Bool) (same : r ≡ isSame (order s m)) where
-  pub changed-none : r ≡ true → 0 ≡ changed s m
-  changed-none h = rw (sym (same-tests s m) ∙ sym same ∙ h)
-
-  pub changed-all : r ≡ false → unitsOf s ≡ changed s m
-  changed-all h = rw (sym (same-tests s m) ∙ sym same ∙ h)
 
 -- ---- the state of fewest units
 
@@ -100,13 +90,13 @@ module _ (T : List State) where
         go (yes l) = let d : r ≡ u = omega arith in rw d (fewest-first l)
         go (no l) = let d : r ≡ v = omega arith in rw d (fewest-second (omega (arith, l)))
 
-  -- four states, and the fewer units of each two
+  -- four states
   pub fewest-four : (i : ℕ) (s t u v : State) → s ≡ stateAt T i → t ≡ stateAt T (i + 1) → u ≡ stateAt T (i + 2) → v ≡ stateAt T (i + 3)
-      → (a b r : ℕ) → a ≡ min (unitsOf s) (unitsOf t) → b ≡ min (unitsOf u) (unitsOf v) → r ≡ min a b → Fewest T i (i + 4) r
-  fewest-four i s t u v p q x y a b r d e =
-      fewest-both i (i + 2) (i + 4) a b
-      (fewest-both i (i + 1) (i + 2) _ _ (fewest-one i (i + 1) _ refl (ap unitsOf p)) (fewest-one (i + 1) (i + 2) _ (omega arith) (ap unitsOf q)) a d)
-      (fewest-both (i + 2) (i + 3) (i + 4) _ _ (fewest-one (i + 2) (i + 3) _ (omega arith) (ap unitsOf x)) (fewest-one (i + 3) (i + 4) _ (omega arith) (ap unitsOf y)) b e) r
+      → (r : ℕ) → r ≡ min (min (unitsOf s) (unitsOf t)) (min (unitsOf u) (unitsOf v)) → Fewest T i (i + 4) r
+  fewest-four i s t u v p q x y =
+      fewest-both i (i + 2) (i + 4) _ _
+      (fewest-both i (i + 1) (i + 2) _ _ (fewest-one i (i + 1) _ refl (ap unitsOf p)) (fewest-one (i + 1) (i + 2) _ (omega arith) (ap unitsOf q)) _ refl)
+      (fewest-both (i + 2) (i + 3) (i + 4) _ _ (fewest-one (i + 2) (i + 3) _ (omega arith) (ap unitsOf x)) (fewest-one (i + 3) (i + 4) _ (omega arith) (ap unitsOf y)) _ refl)
 
   pub lowest-start : (u : ℕ) → u ≡ unitsOf (stateAt T 0) → Lowest T 1 u 0
   lowest-start u e = (fewest-one 0 1 u refl e, λ q l. absurd (omega arith))
@@ -172,17 +162,6 @@ module _ (T : List State) where
           least = rw is at l
 
 -- ---- its partner among the others
-
--- more blocks are shared than `most`, or as many and it is nearer than `near`
-module _ (most shares away near : ℕ) where
-  pub closer-more : most < shares → true ≡ (ltb most shares || (eqb most shares && ltb away near))
-  closer-more l = rw (lt-ltb most shares l)
-
-  pub closer-fewer : shares < most → false ≡ (ltb most shares || (eqb most shares && ltb away near))
-  closer-fewer l = rw (le-ltb most shares (omega arith), ne-eqb most shares (λ e. absurd (omega arith)))
-
-  pub closer-by-misses : most ≤ shares → shares ≤ most → ltb away near ≡ (ltb most shares || (eqb most shares && ltb away near))
-  closer-by-misses k l = rw (le-ltb most shares l, eq-eqb most shares (le-antisymm k l))
 
 -- the search for the partner of s has come to place j of the states R; the best so far, at place k, shares `most` blocks and is `near` away
 pub record Nearest (s : State) (R : List State) (k most near j : ℕ) : Type 0 where

@@ -9,7 +9,7 @@ use native.Mathlib.Omega.{arith}
 use lib.Dec.{eqb}
 use lib.ListN.{length, take, length-map}
 use lib.Seq.{append-snoc, take-all}
-use borrow.Author.Tests.{eq-eqb, ne-eqb}
+use borrow.Author.Tests.{eq-eqb}
 use Rattle.rules.specs.declared.Target.{Target}
 use Rattle.rules.specs.declared.State.{State}
 use Rattle.basics.specs.Sums.{sumOver}
@@ -81,21 +81,6 @@ module _ (N : ℕ) (x : Target) (s : State) (n r : ℕ) (T T′ : List State) wh
   pub miss-goes : hits x (s .mask) ≡ false → Added (miss N x s) n r T T′ → Added (successors N x s) n r T T′
   unfolding successors
   miss-goes h a = rw h a
-
--- what is set aside of a state
-module _ (N : ℕ) (x : Target) (s : State) where
-  pub over-none : hits x (s .mask) ≡ true → 0 ≡ leftOver N x s
-  unfolding leftOver
-  over-none h = rw h
-
-  module _ (h : hits x (s .mask) ≡ false) (E : ℕ) (risk : E ≡ atRisk N x (s .filled) (s .mask)) where
-    pub over-safe : E ≡ 0 → 0 ≡ leftOver N x s
-    unfolding leftOver
-    over-safe z = rw (h, ← risk, eq-eqb E 0 z)
-
-    pub over-rest : (E ≡ 0 → ⊥) → (p : ℕ) → p ≡ unitsOf s % N → p ≡ leftOver N x s
-    unfolding leftOver
-    over-rest n p e = rw (h, ← risk, ne-eqb E 0 n) e
 
 -- ---- the states that follow those of a table
 

@@ -30,7 +30,8 @@ use Rattle.rules.proofs.Graph.{nodeTable, table-stays, table-enter, aside-enter
 use Rattle.words.specs.Tables.{tableOf}
 use Rattle.estimate.specs.Rooms.{InPlace, NodeDone, filled, slotOf, tableIn, workedIn}
 use Rattle.tables.specs.Rooms.{tablesIn as tablesAny}
-use Rattle.estimate.specs.Working.{workAt, startsEmptyOf, startOf, InRange, Ready, Startable}
+use Rattle.states.specs.Filling.{startsEmptyOf}
+use Rattle.estimate.specs.Working.{workAt, startOf, InRange, Ready, Startable}
 use Rattle.words.proofs.Tables.{fits-table}
 use Rattle.tables.proofs.Nodes.{tablesIn-kept, tablesIn-at, seal-table, seal-before}
 use Rattle.tables.proofs.Settling.{stands-work, some-units, table-left, next-work, number-first, number-next, tables-copied, first-copied}

@@ -1,26 +1,19 @@
 -- The finished table, handed over: the words of a slot's table, carried into a room of zeros, are the table with zeros behind it.
-use mathlib.Core.Path.{_≡_, refl, sym, ap, ap₂, _∙_}
+use mathlib.Core.Path.{_≡_, refl, ap, ap₂, _∙_}
+use mathlib.Core.Bool.{true}
 use mathlib.Core.List.{List, [], _∷_, _++_}
 use Prim.Native.Nat.{ℕ, zero, suc, _+_, _-_, _*_, _≤_, _<_}
-use native.Mathlib.Nat.{zero-add}
-use native.Mathlib.Numerals.{add-one}
 use native.Mathlib.Omega.{arith}
-use lib.ListN.{length, getD, set, take, drop, replicate, length-drop}
-use lib.Seq.{paste, paste-suc, getD-drop}
+use lib.ListN.{length, take, drop, replicate, length-drop}
 use Rattle.rules.specs.declared.State.{State}
 use Rattle.words.specs.Tables.{tableOf, wordsOf}
+use Rattle.words.specs.Handing.{goesOver, handedOver, emptied}
 use Rattle.words.proofs.Tables.{fifth, table-drop, fits-table}
+use Rattle.words.proofs.Handing.{goes}
 use Rattle.estimate.specs.Rooms.{filled, slotOf, tableIn}
 use Rattle.estimate.specs.Call.{written}
 use Rattle.rules.specs.Table.{listing}
-use Rattle.tables.proofs.Nodes.{counted, counted-few, zeros-rest, table-long}
-
-pub carry-turn : (ws vs us us′ : List ℕ) (from i : ℕ) → i < length ws → from + i < length vs → us ≡ paste ws 0 (drop from vs) i → us′ ≡ set us i (getD vs (from + i) 0)
-    → us′ ≡ paste ws 0 (drop from vs) (i + 1)
-carry-turn ws vs us us′ from i l k p q =
-    q ∙ rw (add-one i, p, ← getD-drop from vs i 0)
-    (ap (λ (k : ℕ). set (paste ws 0 (drop from vs) i) k (getD (drop from vs) i 0)) (sym (zero-add i))
-    ∙ paste-suc ws 0 (drop from vs) i 0 (omega arith) (omega (arith, length-drop from vs)))
+use Rattle.tables.proofs.Nodes.{counted, counted-few, table-long}
 
 words-take : (ws : List ℕ) (n : ℕ) → n * 5 ≤ length ws → take (n * 5) ws ≡ wordsOf (take n (tableOf ws))
 unfolding tableOf wordsOf
@@ -39,9 +32,16 @@ words-there ws p n l =
 
 -- the table in a slot, handed over
 module _ (last m : ℕ) (ws : List ℕ) (l : last < 64) (long : 25920 ≤ length ws) (count : m ≡ filled (slotOf last (tableOf ws))) where
-  pub handed-over : (rs zs us : List ℕ) → m * 5 ≤ length rs → zs ≡ replicate (length rs) 0 → us ≡ paste zs 0 (drop (last * 64 * 5) ws) (m * 5)
-      → us ≡ written (tableIn last (tableOf ws)) (length rs)
-  handed-over rs zs us room z q =
-      q ∙ ap₂ (λ (us vs : List ℕ). us ++ vs)
+  -- there is room for it
+  fits : (rs : List ℕ) → m * 5 ≤ length rs → goesOver (length rs) (length ws) (last * 64 * 5) (m * 5) ≡ true
+  fits rs room = goes rs ws (last * 64 * 5) (m * 5) room (omega (arith, counted-few listing last m (tableOf ws) count))
+
+  pub handed-over : (rs us : List ℕ) → m * 5 ≤ length rs → us ≡ handedOver rs ws (last * 64 * 5) (m * 5) → us ≡ written (tableIn last (tableOf ws)) (length rs)
+  handed-over rs us room q =
+      q ∙ rw (fits rs room)
+      (ap₂ (λ (us vs : List ℕ). us ++ vs)
       (words-there ws (last * 64) m (omega (arith, counted-few listing last m (tableOf ws) count)) ∙ ap wordsOf (counted listing last m (tableOf ws) count))
-      (ap₂ (λ (k : ℕ) (W : List ℕ). drop k W) (zero-add (m * 5)) z ∙ zeros-rest (length rs) (m * 5) room ∙ ap (λ (k : ℕ). replicate (length rs - k * 5) 0) (table-long listing last m (tableOf ws) count (omega (arith, fits-table ws 5184 long))))
+      (ap (λ (k : ℕ). replicate (length rs - k * 5) 0) (table-long listing last m (tableOf ws) count (omega (arith, fits-table ws 5184 long)))))
+
+  pub handed-empty : (rs us : List ℕ) → m * 5 ≤ length rs → us ≡ emptied rs ws (last * 64 * 5) (m * 5) → us ≡ replicate (length ws) 0
+  handed-empty rs us room q = q ∙ rw (fits rs room) refl

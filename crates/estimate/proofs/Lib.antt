@@ -1,5 +1,4 @@
--- When two states stand in the same place, and which stands after the other
-pub mod Insertion
+-- Which of two states stands after the other
 pub mod Deciding
 -- States added in any order
 pub mod Adding
@@ -8,8 +7,6 @@ pub mod StreamOrder
 pub mod Streams
 pub mod StreamParts
 pub mod Runs
--- The filled numbers
-pub mod Numbers
 -- The states that follow
 pub mod Following
 -- Folding

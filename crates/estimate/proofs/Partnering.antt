@@ -1,16 +1,15 @@
 -- The search for a state's partner that stops early. What its tests say; that the first state found to be alike is document 01's partner, and so is the
 -- nearest of those that hold all blocks, where none is alike (rules/proofs/Partners). X is the table, and i the place of the state whose partner is
 -- looked for.
-use mathlib.Core.Path.{_≡_, refl, sym, ap, ap₂, _∙_}
+use mathlib.Core.Path.{_≡_, refl, sym, ap, _∙_}
 use mathlib.Core.Logic.{_≢_, _⊎_, inl, inr}
 use mathlib.Core.Bool.{Bool, true, false, _&&_, not, true≢false}
 use mathlib.Core.List.{List}
 use Prim.Native.Nat.{ℕ, suc, _+_, _-_, _≤_, _<_}
 use native.Mathlib.Nat.{le-of-suc-le-suc, eq-or-lt-of-le}
 use native.Mathlib.Numerals.{add-one}
-use native.Mathlib.Decide.{ℕ-discrete, decLt, decLe}
+use native.Mathlib.Decide.{decLt, decLe}
 use native.Mathlib.Omega.{arith}
-use lib.Bits.{bitOr, bitXor, and-le-l, and-le-r, or-zero-l, or-add-and, xor-self, xor-add-and}
 use lib.Dec.{eqb, ltb}
 use lib.ListN.{length, take}
 use lib.Seq.{getD-take, length-take-le}
@@ -34,30 +33,6 @@ module _ (r a b : Bool) (e : r ≡ a) where
 
   first-not : r ≡ false → false ≡ (a && b)
   first-not h = rw (sym e ∙ h)
-
--- two numbers are the same where they differ in no bit, and no bit is set of either of two where none is of both together
-same-bits : (a b : ℕ) → bitXor a b ≡ 0 → a ≡ b
-same-bits a b e = omega (arith, e, xor-add-and a b, and-le-l a b, and-le-r a b)
-
-no-bits : (a b : ℕ) → bitOr a b ≡ 0 → (a ≡ 0) × (b ≡ 0)
-no-bits a b e = (omega (arith, e, or-add-and a b, and-le-r a b), omega (arith, e, or-add-and a b, and-le-l a b))
-
--- so that two tests are one
-pub one-test : (a b c d : ℕ) → eqb (bitOr (bitXor a b) (bitXor c d)) 0 ≡ (eqb a b && eqb c d)
-one-test a b c d = go (ℕ-discrete a b) (ℕ-discrete c d)
-  where
-    differ : ((a ≡ b) × (c ≡ d) → ⊥) → eqb (bitOr (bitXor a b) (bitXor c d)) 0 ≡ false
-    differ n =
-        ne-eqb (bitOr (bitXor a b) (bitXor c d)) 0
-        (λ e. let z = no-bits (bitXor a b) (bitXor c d) e in n (same-bits a b (z .0), same-bits c d (z .1)))
-
-    agree : a ≡ b → c ≡ d → bitOr (bitXor a b) (bitXor c d) ≡ 0
-    agree p q = ap₂ bitOr (ap (bitXor a) (sym p) ∙ xor-self a) (ap (bitXor c) (sym q) ∙ xor-self c) ∙ or-zero-l 0
-
-    go : Dec (a ≡ b) → Dec (c ≡ d) → eqb (bitOr (bitXor a b) (bitXor c d)) 0 ≡ (eqb a b && eqb c d)
-    go (yes p) (yes q) = eq-eqb (bitOr (bitXor a b) (bitXor c d)) 0 (agree p q) ∙ sym (rw (eq-eqb a b p, eq-eqb c d q))
-    go (yes p) (no q) = differ (λ h. q (h .1)) ∙ sym (rw (eq-eqb a b p, ne-eqb c d q))
-    go (no p) q = differ (λ h. p (h .0)) ∙ sym (rw (ne-eqb a b p))
 
 module _ (s t : State) where
   alike-so : isAlike s t ≡ true → Alike s t

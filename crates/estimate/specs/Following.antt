@@ -1,23 +1,15 @@
 -- The states that follow a state, in the order in which they are put in.
 use mathlib.Core.List.{List}
-use Prim.Native.Nat.{ℕ, suc, _≤_, _<_}
+use Prim.Native.Nat.{ℕ, _≤_, _<_}
 use Rattle.rules.specs.declared.Target.{Target}
 use Rattle.rules.specs.declared.State.{State}
 use Rattle.rules.specs.Units.{whole}
-use Rattle.rules.specs.Contents.{size, with, without}
-use Rattle.rules.specs.Filling.{fillOne}
-use Rattle.rules.specs.Table.{state, unitsOf}
+use Rattle.rules.specs.Contents.{size, without}
+use Rattle.rules.specs.Table.{unitsOf}
 use Rattle.rules.specs.Step.{atRisk}
 use Rattle.rules.specs.Shape.{Listed}
+pub use Rattle.states.specs.Step.{fuller, missedFrom}
 use Rattle.tables.specs.Following.{lostAt as lostAny}
-
--- s after a miss, as far as the filled numbers go: one more way of the accessed set may be filled
-abbrev pub fuller : ℕ → Target → State → State
-fuller N x s = state (s .mask) (s .misses) (fillOne N (x .set) (s .filled)) (unitsOf s)
-
--- one more miss, from s with the filled numbers after it: the contents C with the accessed block, and u units
-abbrev pub missedFrom : Target → State → ℕ → ℕ → State
-missedFrom x s C u = state (with C (x .place)) (suc (s .misses)) (s .filled) u
 
 -- what a way that loses the block at place e makes of s: one more miss, and q units
 abbrev pub losing : Target → State → ℕ → ℕ → State

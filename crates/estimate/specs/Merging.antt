@@ -15,6 +15,7 @@ use Rattle.rules.specs.Contents.{bit, hits, without, shared, size}
 use Rattle.rules.specs.Filling.{filledAt}
 use Rattle.rules.specs.Table.{state, unitsOf}
 use Rattle.rules.specs.Step.{atRisk, missed, leftOver}
+pub use Rattle.states.specs.Step.{fills}
 use Rattle.estimate.specs.Placing.{placeOf}
 
 -- ---- what becomes of a state, with 0 units where that does not happen to it
@@ -59,10 +60,6 @@ inAll N x T (suc k) = inAll N x T k ++ map (part N x k) T
 -- whether stream k has anything of states that all are hits (h), or fill an empty way (f), or can lose the blocks E
 unfoldable pub comes : Bool → Bool → ℕ → ℕ → Bool
 comes h f E k = cond h (ltb 17 k) (cond f (eqb k 17) (cond (ltb k 16) (bit E k) (eqb k 16)))
-
--- an empty way is filled, if s misses
-abbrev pub fills : ℕ → Target → State → Bool
-fills N x s = ltb (filledAt (s .filled) (x .set)) N
 
 -- a state of a run: it has the contents C, and fills an empty way or not, as f says
 abbrev pub InRun : ℕ → Target → ℕ → Bool → State → Type 0

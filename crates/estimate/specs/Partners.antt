@@ -1,24 +1,18 @@
 -- What the search for a state's partner looks for first, and what replaces the two.
 use mathlib.Core.Path.{_≡_}
 use mathlib.Core.Logic.{_≢_}
-use mathlib.Core.Bool.{Bool, true, false, cond, _&&_, _||_, not}
+use mathlib.Core.Bool.{Bool, true, false, _&&_, _||_, not}
 use mathlib.Core.List.{List, [], _∷_}
 use Prim.Native.Nat.{ℕ, _-_, _≤_, _<_}
 use lib.Dec.{eqb, ltb}
 use lib.ListN.{length, take}
 use Rattle.rules.specs.declared.State.{State}
-use Rattle.rules.specs.Contents.{shared}
 use Rattle.rules.specs.Ordered.{remove}
 use Rattle.rules.specs.Table.{unitsOf, stateAt, add}
 use Rattle.rules.specs.Fold.{sharing, apart}
-
--- t holds all blocks of s
-abbrev pub holdsAll : State → State → Bool
-holdsAll s t = eqb (shared (s .mask) (t .mask)) (s .mask)
-
--- and has as many misses: no other state can be a better partner
-abbrev pub isAlike : State → State → Bool
-isAlike s t = holdsAll s t && eqb (s .misses) (t .misses)
+-- the place of the one at place p among the others than the one at place i
+pub use Rattle.rules.proofs.Partners.{among}
+pub use Rattle.states.specs.Partners.{holdsAll, isAlike}
 
 -- s stands at place i of T before all that are alike to it: it holds tracked blocks only, and the state before it is not alike
 abbrev pub leads : State → List State → ℕ → Bool
@@ -60,10 +54,6 @@ Lowest T n u i = Fewest T i n u × ((q : ℕ) → q < i → u < unitsOf (stateAt
 -- t holds all blocks of s and is nearer to it in misses than m
 abbrev pub nearer : State → State → ℕ → Bool
 nearer s t m = holdsAll s t && ltb (apart s t) m
-
--- the place of the one at place p among the others than the one at place i
-abbrev pub among : ℕ → ℕ → ℕ
-among i p = cond (ltb i p) (p - 1) p
 
 -- T with m in place of the states at places i and p: added into an equal state if there is one
 unfoldable pub replaced : ℕ → ℕ → State → List State → List State

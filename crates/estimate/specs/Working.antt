@@ -1,38 +1,23 @@
 -- What is asked of the working room before a table in it is worked.
 use mathlib.Core.Path.{_≡_}
-use mathlib.Core.Bool.{Bool, true, cond, _&&_}
-use mathlib.Core.List.{List, _++_}
+use mathlib.Core.Bool.{true}
+use mathlib.Core.List.{List}
 use Prim.Native.Nat.{ℕ, _+_, _-_, _≤_, _<_}
-use lib.Dec.{eqb}
-use lib.ListN.{length, take, drop, replicate}
+use lib.ListN.{length, take, drop}
 use Rattle.rules.specs.declared.Cache.{Cache}
-use Rattle.rules.specs.declared.Filled.{Filled}
 use Rattle.rules.specs.Units.{whole}
 use Rattle.rules.specs.Contents.{among}
-use Rattle.rules.specs.Filling.{evenly}
 use Rattle.rules.specs.Table.{Work}
 use Rattle.rules.specs.Shape.{Every, Table}
 use Rattle.rules.specs.Input.{edgesOf, predecessors}
-use Rattle.rules.specs.Graph.{isCold}
 use Rattle.rules.specs.Refusals.{setCounts}
+pub use Rattle.states.specs.Filling.{startOf}
 use Rattle.words.specs.Tables.{tableOf}
 use Rattle.estimate.specs.Rooms.{tableIn}
 
 -- the table of n states at place p, with the set-aside count a
 abbrev pub workAt : ℕ → ℕ → ℕ → List ℕ → Work
 workAt p n a ws = record { table = take n (drop p (tableOf ws)); aside = a }
-
--- n for each of Z sets, and 0 for those beyond, of sixteen
-abbrev pub sixteenOf : ℕ → ℕ → List ℕ
-sixteenOf Z n = replicate Z n ++ replicate (16 - length (replicate Z n)) 0
-
--- the cache is found empty, and fills empty ways first
-abbrev pub startsEmptyOf : Cache → Bool
-startsEmptyOf c = eqb (c .revision) 2 && isCold (c .start)
-
--- how many ways may be filled at the start
-abbrev pub startOf : Cache → Filled
-startOf c = evenly (c .sets) (cond (startsEmptyOf c) 0 (c .ways))
 
 -- the cache, the tracked blocks and at most K states are in their ranges
 pub record InRange (c : Cache) (ts : List ℕ) (K : ℕ) : Type 0 where

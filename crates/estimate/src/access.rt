@@ -1,16 +1,18 @@
-// One access, state by state: what a miss can evict, what becomes of a state, and what of it is set aside. A table of few states is worked by this alone.
-use crate::filled::fill_one;
-use crate::filled::number_of;
+// One access, state by state: the states that follow one are added to the table, and what is left over is counted. A table of few states is worked by this alone.
 use crate::memory::load;
 use crate::placing::add;
-use crate::states::Tally;
+use crate::tally::Tally;
 use rules::State;
 use rules::Target;
 use rules::Units;
+use states::step::at_risk;
+use states::step::fuller;
+use states::step::left_over;
+use states::step::missed;
+use states::step::rest_of;
 use tables::has_block;
 use tables::has_place;
 use tables::size_of;
-use tables::with_block;
 use tables::without_place;
 ghost use mathlib.Core.Path.{_≡_};
 ghost use mathlib.Core.Bool.{true};
@@ -20,62 +22,12 @@ ghost use lib.ListN.{length, take, drop};
 ghost use Rattle.rules.specs.Units.{whole, more};
 ghost use Rattle.rules.specs.Contents.{without, held};
 ghost use Rattle.rules.specs.Table.{rising, add as addOf};
-ghost use Rattle.rules.specs.Step.{atRisk, restOf, miss as missOf, successors, leftOver, access, accessAside};
+ghost use Rattle.rules.specs.Step.{miss as missOf, successors, access, accessAside};
 ghost use Rattle.rules.specs.Shape.{Every, Listed};
 ghost use Rattle.words.specs.Tables.{tableOf};
 ghost use Rattle.estimate.specs.Placing.{Added};
 ghost use Rattle.estimate.specs.Rooms.{InScratch};
-ghost use Rattle.estimate.specs.Following.{fuller as fullerOf, missedFrom, lostAt, Placed, Workable};
-
-// The blocks of `s` that a miss can evict: those of its own set, once every way of the set may be filled.
-pub(crate) fn at_risk(s: State, x: Target, ways: u64) -> u64
-    requires { ⌜ x .set < 16 ⌝ }
-    ensures { λ r. ⌜ r ≡ atRisk ways x (s .filled) (s .mask) ⌝ }
-{
-    if number_of(s.filled, x.set) < ways {
-        return 0;
-    }
-    s.mask & x.mates
-}
-
-// `s` with one more way of the accessed set that may be filled.
-pub(crate) fn fuller(s: State, x: Target, ways: u64) -> State
-    requires { ⌜ (ways ≤ 16) × (x .set < 16) ⌝ }
-    ensures { λ r. ⌜ r ≡ fullerOf ways x s ⌝ }
-{
-    let units = s.units;
-    State {
-        mask: s.mask,
-        misses: s.misses,
-        filled: fill_one(ways, x.set, s.filled),
-        units,
-    }
-}
-
-// What the units that are left over keep of `mask`: nothing where a block of `risk` can be lost, or all.
-pub(crate) fn rest_of(mask: u64, risk: u64) -> u64
-    ensures { λ r. ⌜ r ≡ restOf mask risk ⌝ }
-{
-    if risk == 0 {
-        return mask;
-    }
-    0
-}
-
-// From `s`, whose filled numbers are those after it, one miss more: `mask` with the accessed block, and `units`.
-pub(crate) fn missed(s: State, x: Target, mask: u64, units: Units) -> State
-    requires { ⌜ Listed 16 (x .place) × (s .misses ≤ 4095) ⌝ }
-    ensures { λ r. ⌜ r ≡ missedFrom x s mask (units .0) ⌝ }
-{
-    let place = x.place;
-    let filled = s.filled;
-    State {
-        mask: with_block(mask, place),
-        misses: s.misses + 1,
-        filled,
-        units,
-    }
-}
+ghost use Rattle.estimate.specs.Following.{missedFrom, lostAt, Placed, Workable};
 
 // What a way that holds the block at place `at` makes of `s`, where that block is one of `risk`.
 pub(crate) fn lose_one(
@@ -153,22 +105,6 @@ pub(crate) fn follow_to_scratch(work: &mut [u64], n: usize, s: State, x: Target,
     ensures { λ r. ⌜ InScratch (addOf (successors ways x s) (take n (drop 4096 (tableOf (now (work .entry)))))) r (tableOf (now (work .entry))) (tableOf (now (work .exit))) ⌝ }
 {
     follow(&mut work[20480..], n, s, x, ways)
-}
-
-// What of `s` is set aside.
-pub(crate) fn left_over(s: State, x: Target, ways: u64) -> Units
-    requires { ⌜ Placed x ⌝ }
-    ensures { λ r. ⌜ r .0 ≡ leftOver ways x s ⌝ }
-{
-    let place = x.place;
-    if has_block(s.mask, x.again, place) {
-        return Units(0);
-    }
-    if at_risk(s, x, ways) == 0 {
-        return Units(0);
-    }
-    let u = s.units;
-    u.split(ways).rest
 }
 
 // The states that follow the `m` states at place `from`, added one after the other in the scratch, which is empty at first.

@@ -1,6 +1,6 @@
 // The finished table, handed over.
 use crate::slots::count;
-use words::clear;
+use words::hand_over as hand_words;
 ghost use mathlib.Core.Path.{_≡_};
 ghost use Prim.Native.Nat.{_+_, _*_, _≤_, _<_};
 ghost use lib.ListN.{length, drop, replicate};
@@ -8,18 +8,6 @@ ghost use lib.Seq.{paste};
 ghost use Rattle.words.specs.Tables.{tableOf};
 ghost use Rattle.estimate.specs.Rooms.{tableIn};
 ghost use Rattle.estimate.specs.Call.{written};
-
-// The first `n` words of the result are those of the working room from word `from` on.
-pub(crate) fn carry(result: &mut [u64], work: &[u64], from: usize, n: usize)
-    requires { ⌜ (n ≤ length (now result)) × (from + n ≤ length (now work)) ⌝ }
-    ensures { λ _. ⌜ now (result .exit) ≡ paste (now (result .entry)) 0 (drop from (now (work .entry))) n ⌝ }
-{
-    let mut i: usize = 0;
-    while i < n {
-        result[i] = work[from + i];
-        i += 1;
-    }
-}
 
 // The table in slot `last` goes to the result, with zeros behind it; the working room is all zeros; how many states there are.
 pub(crate) fn hand_over(result: &mut [u64], work: &mut [u64], last: usize) -> usize
@@ -29,8 +17,6 @@ pub(crate) fn hand_over(result: &mut [u64], work: &mut [u64], last: usize) -> us
     ensures { λ _. ⌜ now (work .exit) ≡ replicate (length (now (work .entry))) 0 ⌝ }
 {
     let n = count(work, last * 64);
-    clear(result);
-    carry(result, work, last * 64 * 5, n * 5);
-    clear(work);
+    hand_words(result, work, last * 64 * 5, n * 5);
     n
 }

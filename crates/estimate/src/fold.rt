@@ -1,64 +1,37 @@
 // Folding a table down to the state limit.
-use crate::filled::same_filled;
 use crate::memory::load;
 use crate::memory::store;
 use crate::placing::add;
-use crate::placing::is_same;
-use crate::states::Least;
-use crate::states::Tally;
-use crate::states::meet;
-use basics::larger;
+use crate::tally::Least;
+use crate::tally::Tally;
 use rules::Pair;
 use rules::State;
 use rules::Units;
+use states::is_same;
+use states::partner::apart;
+use states::partner::closer;
+use states::partner::fewest_of_four;
+use states::partner::holds_all;
+use states::partner::is_alike;
+use states::partner::is_unbeaten;
+use states::partner::made_one;
+use states::partner::one_fewer;
+use states::partner::set_aside;
+use states::partner::sharing;
 use tables::size_of;
-use tables::smaller;
 ghost use mathlib.Core.Path.{_≡_};
 ghost use mathlib.Core.Logic.{_≢_};
 ghost use mathlib.Core.Bool.{true, cond, _||_, _&&_, not};
 ghost use Prim.Native.Nat.{suc, _+_, _*_, _-_, _≤_, _<_};
 ghost use lib.Dec.{eqb, ltb, leb};
 ghost use lib.ListN.{length, take, set};
-ghost use Rattle.rules.specs.Contents.{size};
-ghost use Rattle.rules.specs.Units.{more};
 ghost use Rattle.rules.specs.Ordered.{remove, best};
 ghost use Rattle.rules.specs.Table.{unitsOf, order, rising, stateAt};
-ghost use Rattle.rules.specs.Fold.{sharing as sharingOf, apart as apartOf, closer as closerOf, choice, meet as meetOf, changed as changedOf, fold, folded};
+ghost use Rattle.rules.specs.Fold.{closer as closerOf, choice, fold, folded};
 ghost use Rattle.words.specs.Tables.{tableOf};
 ghost use Rattle.estimate.specs.Placing.{isSame};
 ghost use Rattle.estimate.specs.Rooms.{Stands};
-ghost use Rattle.estimate.specs.Partners.{holdsAll, isAlike, leads, nearer, NoneAlike, NoneMore, FirstOfMask, FirstHolder, Fewest, Lowest, among, Replaced};
-
-// How many blocks `s` shares with `t`.
-pub(crate) fn sharing(s: State, t: State) -> u64
-    ensures { λ r. ⌜ r ≡ sharingOf s t ⌝ }
-{
-    size_of(s.mask & t.mask)
-}
-
-// How far apart in misses they are.
-pub(crate) fn apart(s: State, t: State) -> u64
-    ensures { λ r. ⌜ r ≡ apartOf s t ⌝ }
-{
-    if s.misses < t.misses {
-        return t.misses - s.misses;
-    }
-    s.misses - t.misses
-}
-
-// Whether `t` is a better partner of `s` than one that shares `most` blocks with it and is `near` away in misses.
-pub(crate) fn closer(s: State, t: State, most: u64, near: u64) -> bool
-    ensures { λ r. ⌜ r ≡ (ltb most (sharingOf s t) || (eqb most (sharingOf s t) && ltb (apartOf s t) near)) ⌝ }
-{
-    let shares = sharing(s, t);
-    if most < shares {
-        return true;
-    }
-    if shares < most {
-        return false;
-    }
-    apart(s, t) < near
-}
+ghost use Rattle.estimate.specs.Partners.{holdsAll, leads, nearer, NoneAlike, NoneMore, FirstOfMask, FirstHolder, Fewest, Lowest, among, Replaced};
 
 // The place in the table of the state at place `at` among the others than the one at place `out`; `at` has a next number.
 pub(crate) fn place_past(out: usize, at: usize) -> usize
@@ -79,16 +52,6 @@ pub(crate) fn place_among(out: usize, at: usize) -> usize
         return at - 1;
     }
     at
-}
-
-// Whether none can be a better partner than one that shares `most` blocks and is `near` away in misses, where none shares more than `bound`.
-pub(crate) fn is_unbeaten(most: u64, near: u64, bound: u64) -> bool
-    ensures { λ r. ⌜ r ≡ (leb bound most && eqb near 0) ⌝ }
-{
-    if bound <= most {
-        return near == 0;
-    }
-    false
 }
 
 // The partner of `s` among the others than the one at place `at`, of `n`, place by place; none of them shares more than `bound` blocks with it. Of the
@@ -115,22 +78,6 @@ pub(crate) fn nearest_of_all(words: &[u64], n: usize, at: usize, s: State, bound
         j += 1;
     }
     partner
-}
-
-// Whether `t` holds all blocks of `s`.
-pub(crate) fn holds_all(s: State, t: State) -> bool
-    ensures { λ r. ⌜ r ≡ holdsAll s t ⌝ }
-{
-    s.mask & t.mask == s.mask
-}
-
-// Whether `t` holds all blocks of `s` and has as many misses: one test, of what it lacks and of what its misses differ in.
-pub(crate) fn is_alike(s: State, t: State) -> bool
-    ensures { λ r. ⌜ r ≡ isAlike s t ⌝ }
-{
-    let lacking = (s.mask & t.mask) ^ s.mask;
-    let differing = s.misses ^ t.misses;
-    lacking | differing == 0
 }
 
 // Whether `s` stands at place `at` before all that are alike to it.
@@ -225,17 +172,6 @@ pub(crate) fn nearest_holder(words: &[u64], n: usize, at: usize, s: State, first
     found
 }
 
-// One block fewer than `s` has; none where it has none.
-pub(crate) fn one_fewer(s: State) -> u64
-    ensures { λ r. ⌜ r ≡ size (s .mask) - 1 ⌝ }
-{
-    let all = size_of(s.mask);
-    if all == 0 {
-        return 0;
-    }
-    all - 1
-}
-
 // The partner of `s`, which stands at place `at` of `n`, where none is alike: the nearest of those that hold all its blocks, and else the best of all, none of
 // which shares all of them.
 pub(crate) fn nearest(words: &[u64], n: usize, at: usize, s: State) -> usize
@@ -254,9 +190,12 @@ pub(crate) fn least_of_four(words: &[u64], at: usize) -> Units
     requires { ⌜ at * 5 + 20 ≤ length (now words) ⌝ }
     ensures { λ r. ⌜ Fewest (tableOf (now (words .entry))) at (at + 4) (r .0) ⌝ }
 {
-    let first = smaller(load(words, at).units, load(words, at + 1).units);
-    let second = smaller(load(words, at + 2).units, load(words, at + 3).units);
-    smaller(first, second)
+    fewest_of_four(
+        load(words, at).units,
+        load(words, at + 1).units,
+        load(words, at + 2).units,
+        load(words, at + 3).units,
+    )
 }
 
 // The fewest units of the first of `n` states: all but three at most, by fours.
@@ -407,40 +346,6 @@ pub(crate) fn replace(words: &mut [u64], n: usize, i: usize, p: usize, m: State)
         return n - 1;
     }
     put_anew(words, n, i, p, m)
-}
-
-// The units of `s`, where its mask, misses or filled numbers are not those of `m`.
-pub(crate) fn changed(s: State, m: State) -> Units
-    ensures { λ r. ⌜ r .0 ≡ changedOf s m ⌝ }
-{
-    if is_same(s, m) {
-        return Units(0);
-    }
-    s.units
-}
-
-// The set-aside count with the units of `s` and of `t`, each where it is changed in becoming `m`.
-pub(crate) fn set_aside(aside: Units, s: State, t: State, m: State) -> Units
-    ensures { λ r. ⌜ r .0 ≡ more (aside .0) (changedOf s m + changedOf t m) ⌝ }
-{
-    let first = aside.add(changed(s, m));
-    first.add(changed(t, m))
-}
-
-// What the two become, with `units`. Most often their filled numbers are the same.
-pub(crate) fn made_one(s: State, t: State, units: Units) -> State
-    ensures { λ r. ⌜ r ≡ meetOf s t (units .0) ⌝ }
-{
-    let filled = s.filled;
-    if same_filled(filled, t.filled) {
-        return State {
-            mask: s.mask & t.mask,
-            misses: larger(s.misses, t.misses),
-            filled,
-            units,
-        };
-    }
-    meet(s, t, units)
 }
 
 // One fold of the first `n` states.

@@ -1,21 +1,21 @@
 // Nodes one after the other, each from the joined tables of its predecessors.
-use crate::filled::start_of;
-use crate::last::last_after;
-use crate::last::last_before;
 use crate::memory::copy;
 use crate::memory::store;
 use crate::run::join_to;
 use crate::run::run;
 use crate::slots::count;
 use crate::slots::seal;
-use crate::states::Joined;
-use crate::states::Tally;
-use crate::states::both;
+use crate::tally::Joined;
+use crate::tally::Tally;
 use pairings::joins_to;
 use rules::Cache;
 use rules::Last;
 use rules::State;
 use rules::Units;
+use states::both;
+use states::filled::start_of;
+use states::last::last_after;
+use states::last::last_before;
 use tables::next_edge;
 ghost use mathlib.Core.Path.{_≡_};
 ghost use mathlib.Core.Bool.{_&&_};

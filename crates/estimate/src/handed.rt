@@ -2,10 +2,10 @@
 use crate::join::add_to_scratch;
 use crate::join::pair_up;
 use crate::memory::load;
-use crate::states::meet;
 use pairings::NONE;
 use pairings::is_accepted;
 use rules::Units;
+use states::meet;
 ghost use mathlib.Core.Path.{_≡_};
 ghost use mathlib.Core.Bool.{true, cond};
 ghost use mathlib.Core.List.{[], _∷_};

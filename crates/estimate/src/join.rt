@@ -1,10 +1,10 @@
 // Joining two tables: both from the front, as many units at a time as the smaller remaining amount allows.
 use crate::memory::load;
 use crate::placing::add;
-use crate::states::meet;
 use rules::Filled;
 use rules::State;
 use rules::Units;
+use states::meet;
 use tables::smaller;
 ghost use mathlib.Core.Path.{_≡_};
 ghost use mathlib.Core.Bool.{true};

@@ -1,33 +1,30 @@
 // The estimate: from one access to a whole graph, in memory that the caller lends.
 use crate::finish::hand_over;
 use crate::graph::work_nodes;
+use calls::refuse_pairing;
 use pairings::in_form;
 use pairings::joins_to;
 use refusals::judge;
 use rules::Cache;
 use rules::Outcome;
-use rules::Refusal;
 use rules::Verdict;
-use words::clear;
 ghost use mathlib.Core.Path.{_≡_};
 ghost use Rattle.rules.specs.declared.Verdict.the-variants.{Accepted};
 ghost use Rattle.rules.specs.Refusals.{verdict};
 ghost use Rattle.estimate.specs.Call.{handed, analysed, analysedPaired};
 
 mod access;
-mod filled;
 mod finish;
 mod fold;
 mod graph;
 mod handed;
 mod join;
-mod last;
 mod memory;
 mod merge;
 mod placing;
 mod run;
 mod slots;
-mod states;
+mod tally;
 
 // The graph call: the finished table goes to `result`, five words a state, and `work` is used on the way.
 pub fn analyse(
@@ -91,8 +88,7 @@ fn work_paired(
     ensures { λ r. ⌜ record { answer = r; result = now (result .exit); work = now (work .exit) } ≡ analysedPaired cache limit (now (tracked .entry)) (now (runs .entry)) (now (accesses .entry)) (now (edges .entry)) (now (counts .entry)) (now (rows .entry)) (now (result .entry)) (now (work .entry)) ⌝ }
 {
     if !in_form(joins_to(edges, runs.len()), counts, rows) {
-        clear(work);
-        return Outcome::Refused(Refusal::Pairing);
+        return refuse_pairing(work);
     }
     let done = work_nodes(
         work,
@@ -106,8 +102,7 @@ fn work_paired(
         rows,
     );
     if !done.fits {
-        clear(work);
-        return Outcome::Refused(Refusal::Pairing);
+        return refuse_pairing(work);
     }
     let states = hand_over(result, work, runs.len() - 1);
     let aside = done.aside;

@@ -1,4 +1,4 @@
-// Tables in lent words: five words a state. One state is read and written here only; `finish` moves whole stretches.
+// Tables in lent words: five words a state. One state is read and written here only.
 use rules::Filled;
 use rules::State;
 use rules::Units;

@@ -1,19 +1,21 @@
 // One access by merging. What is left over of each state comes first, each in its place. Then the states of the table are taken run by run: those of one mask that follow each
 // other, and fill an empty way or do not. What becomes of a run in one stream stands in order, and is merged into the table: the place where a state belongs is never before
 // that of the one that came before it.
-use crate::access::fuller;
 use crate::access::gather_each;
-use crate::access::left_over;
-use crate::access::missed;
-use crate::filled::number_of;
 use crate::memory::load;
 use crate::placing::Reached;
 use crate::placing::put_near;
 use crate::placing::put_on;
-use crate::states::Tally;
+use crate::tally::Tally;
 use rules::State;
 use rules::Target;
 use rules::Units;
+use states::step::fills;
+use states::step::fuller;
+use states::step::goes_on;
+use states::step::held_of;
+use states::step::left_over;
+use states::step::missed;
 use tables::has_block;
 use tables::has_place;
 use tables::size_of;
@@ -47,14 +49,6 @@ pub(crate) fn kept_of(risk: u64, ways: u64, units: Units) -> Units
     let share = units.split(ways);
     let part = share.part;
     Units((ways - size_of(risk)) * part.0)
-}
-
-// Whether `s` fills an empty way, if it misses.
-pub(crate) fn fills(s: State, x: Target, ways: u64) -> bool
-    requires { ⌜ x .set < 16 ⌝ }
-    ensures { λ r. ⌜ r ≡ fillsOf ways x s ⌝ }
-{
-    number_of(s.filled, x.set) < ways
 }
 
 // What becomes of `s` in stream `k`, which has something of such states.
@@ -246,23 +240,6 @@ pub(crate) fn follow(
     put_run(work, states, from, m, x, ways, 16)
 }
 
-// Whether `s` goes on with a run: it has its mask, and fills an empty way as it does.
-pub(crate) fn goes_on(s: State, x: Target, ways: u64, mask: u64, filling: bool) -> bool
-    requires { ⌜ x .set < 16 ⌝ }
-    ensures { λ r. ⌜ (r ≡ true → InRun ways x mask filling s) ⌝ }
-{
-    if s.mask != mask {
-        return false;
-    }
-    if fills(s, x, ways) {
-        return filling;
-    }
-    if filling {
-        return false;
-    }
-    true
-}
-
 // How many of the `m` states at place `from`, the first of which goes on with a run, do.
 pub(crate) fn run_of(
     work: &[u64],
@@ -285,13 +262,6 @@ pub(crate) fn run_of(
         }
     }
     i
-}
-
-// The blocks of `mask` that belong to the accessed set.
-pub(crate) fn held_of(mask: u64, x: Target) -> u64
-    ensures { λ r. ⌜ r ≡ shared mask (x .mates) ⌝ }
-{
-    mask & x.mates
 }
 
 // The first run of the states from place `from` to place `to`, put in each stream to the first `n` states of the scratch; how many states it then has, and the place behind

@@ -1,8 +1,9 @@
 // States put into an ordered table, each where it belongs.
-use crate::filled::same_filled;
 use crate::memory::load;
 use crate::memory::store;
 use rules::State;
+use states::is_same;
+use states::plus;
 ghost use mathlib.Core.Path.{_≡_};
 ghost use mathlib.Core.Bool.{true, _&&_};
 ghost use mathlib.Core.List.{[], _∷_, _++_};
@@ -13,34 +14,6 @@ ghost use Rattle.rules.specs.Ordered.{insert};
 ghost use Rattle.rules.specs.Table.{order, plus as plusOf, rising, stateAt};
 ghost use Rattle.words.specs.Tables.{tableOf};
 ghost use Rattle.estimate.specs.Placing.{isAfter, isSame, placeOf, Passed, Inserted, Added};
-
-// Whether `s` and `t` stand in the same place.
-pub(crate) fn is_same(s: State, t: State) -> bool
-    ensures { λ r. ⌜ r ≡ isSame (order s t) ⌝ }
-{
-    if s.mask != t.mask {
-        return false;
-    }
-    if s.misses != t.misses {
-        return false;
-    }
-    same_filled(s.filled, t.filled)
-}
-
-// `t` with the units of `s`.
-pub(crate) fn plus(t: State, s: State) -> State
-    ensures { λ r. ⌜ r ≡ plusOf t s ⌝ }
-{
-    let filled = t.filled;
-    let u = t.units;
-    let v = s.units;
-    State {
-        mask: t.mask,
-        misses: t.misses,
-        filled,
-        units: u.add(v),
-    }
-}
 
 // Whether `s` stands after the state at place `at`: no word is read where those before it decide.
 pub(crate) fn is_behind(words: &[u64], at: usize, s: State) -> bool

@@ -3,12 +3,13 @@ use crate::fold::fold_down;
 use crate::handed::pair_entry;
 use crate::memory::copy;
 use crate::merge::gather;
-use crate::states::Joined;
-use crate::states::Tally;
-use crate::states::both;
+use crate::tally::Joined;
+use crate::tally::Tally;
 use rules::Cache;
 use rules::Last;
 use rules::Units;
+use states::both;
+use states::last::accessed;
 use tables::aim;
 ghost use mathlib.Core.Path.{_≡_};
 ghost use mathlib.Core.Bool.{true, _&&_};
@@ -82,7 +83,7 @@ pub(crate) fn run(
     while i < accesses.len() {
         let block = accesses[i];
         so_far = advance(work, at, so_far, before, block, tracked, cache, limit);
-        before = Last::Block(block);
+        before = accessed(block);
         i += 1;
     }
     so_far

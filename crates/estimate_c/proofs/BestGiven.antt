@@ -7,7 +7,7 @@ use Rattle.rules.specs.declared.MissCount.{MissCount}
 use Rattle.rules.specs.declared.HitCount.{HitCount}
 use Rattle.rules.specs.BestQuestions.{MissSpreadAnswer, HitSpreadAnswer}
 use Rattle.best.specs.Call.{After}
-use Rattle.estimate_c.specs.Given.{ValueGiven}
+use Rattle.given.specs.Answers.{ValueGiven}
 use Rattle.estimate_c.specs.Best.{bestOutcomeGiven, bestGiven, missesGiven, hitsGiven, missSpreadGiven, hitSpreadGiven}
 
 pub best-given : {o p : BestOutcome} {result work : List ℕ} (a : After) (states : ℕ)

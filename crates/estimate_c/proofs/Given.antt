@@ -16,7 +16,8 @@ use Rattle.nightly.specs.declared.Report.{Report}
 use Rattle.nightly.specs.Call.{BuildLeft}
 use Rattle.writing.specs.declared.Written.{Written}
 use Rattle.text.specs.Rooms.{Rooms, NumbersWritten, TextWritten}
-use Rattle.estimate_c.specs.Given.{OutcomeGiven, ValueGiven, outcomeGiven, graphGiven, expansionGiven, listingGiven, builtGiven, nightlyGiven, countGiven, spreadGiven, readingGiven, readGiven, countedGiven, bytesOf, numbersGiven, textGiven}
+use Rattle.given.specs.Answers.{OutcomeGiven, ValueGiven, ReadingGiven, SizesGiven, outcomeGiven, sizesGiven, countGiven, readingGiven, bytesOf}
+use Rattle.estimate_c.specs.Given.{graphGiven, listingGiven, builtGiven, nightlyGiven, spreadGiven, readGiven, countedGiven, numbersGiven, textGiven}
 
 -- of a graph call: `g` is what its answer `o` gives
 pub graph-given : {g : OutcomeGiven} {o : Outcome} {result work : List ℕ} {a : After} (states aside : ℕ)
@@ -26,12 +27,13 @@ pub graph-given : {g : OutcomeGiven} {o : Outcome} {result work : List ℕ} {a :
 graph-given {result = result} {work = work} states aside said leaves =
     ap (λ h. record { answer = h; result = result; work = work }) said ∙ ap (λ b. graphGiven b states aside) leaves
 
-pub listing-given : {o p : Expansion} {runs accesses edges : List ℕ} (a : ExpandingLeft) (nodes many links : ℕ)
-    → o ≡ p
+-- of a listing: `g` is what the answer `o` gives
+pub listing-given : {g : SizesGiven} {o : Expansion} {runs accesses edges : List ℕ} {a : ExpandingLeft} (nodes many links : ℕ)
+    → g ≡ sizesGiven o nodes many links
     → record { answer = o; runs = runs; accesses = accesses; edges = edges } ≡ a
-    → expansionGiven p nodes many links runs accesses edges ≡ listingGiven a nodes many links
-listing-given {runs = runs} {accesses = accesses} {edges = edges} a nodes many links told leaves =
-    ap (λ q. expansionGiven q nodes many links runs accesses edges) (sym told) ∙ ap (λ b. listingGiven b nodes many links) leaves
+    → record { answer = g; runs = runs; accesses = accesses; edges = edges } ≡ listingGiven a nodes many links
+listing-given {runs = runs} {accesses = accesses} {edges = edges} nodes many links said leaves =
+    ap (λ h. record { answer = h; runs = runs; accesses = accesses; edges = edges }) said ∙ ap (λ b. listingGiven b nodes many links) leaves
 
 pub nightly-given : {o p : Built} {rows work : List ℕ} (a : BuildLeft) (report : Report)
     → o ≡ p
@@ -53,12 +55,11 @@ pub spread-given : {g : ValueGiven} {o : Count} {room : List ℕ} {a : SpreadAns
     → record { answer = g; room = room } ≡ spreadGiven a value
 spread-given {room = room} value said leaves = ap (λ h. record { answer = h; room = room }) said ∙ ap (λ b. spreadGiven b value) leaves
 
-pub read-given : {o p : Reading} {room : List ℕ} (a : ReadLeft) (count place : ℕ)
-    → o ≡ p
+pub read-given : {g : ReadingGiven} {o : Reading} {room : List ℕ} {a : ReadLeft} (count place : ℕ)
+    → g ≡ readingGiven o count place
     → record { answer = o; room = room } ≡ a
-    → readingGiven p count place room ≡ readGiven a count place
-read-given {room = room} a count place told leaves =
-    ap (λ q. readingGiven q count place room) (sym told) ∙ ap (λ b. readGiven b count place) leaves
+    → record { answer = g; room = room } ≡ readGiven a count place
+read-given {room = room} count place said leaves = ap (λ h. record { answer = h; room = room }) said ∙ ap (λ b. readGiven b count place) leaves
 
 pub counted-given : {o p : Counted} {room : List ℕ} (a : CountLeft) (value : ℕ)
     → o ≡ p

@@ -49,7 +49,7 @@ use Rattle.rules.specs.declared.State.{State}
 use Rattle.rows.proofs.Asking.{slots, Numbers, numbers, operands, Form, Params, Question, Answered, to-question}
 use Rattle.rows.proofs.LentRow.{document-01, StateT, RowT, slice, lends}
 use Rattle.rows.proofs.Walk.{Claim, claims, Keeps, Alive, Brought, asks, leaves, within, known, proves}
-use Rattle.estimate_c.specs.Given.{ValueGiven}
+use Rattle.given.specs.Answers.{ValueGiven}
 use Rattle.estimate_c.proofs.Given.{value-given}
 
 -- the reference that takes the value

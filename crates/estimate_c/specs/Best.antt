@@ -10,7 +10,8 @@ use Rattle.rules.specs.declared.HitCount.the-variants.{Largest as LargestHits, 
 use Rattle.rules.specs.Answers.{numberOf}
 use Rattle.rules.specs.BestQuestions.{MissSpreadAnswer, HitSpreadAnswer}
 use Rattle.best.specs.Call.{After}
-use Rattle.estimate_c.specs.Given.{ValueGiven, RoomGiven}
+use Rattle.given.specs.Answers.{ValueGiven}
+use Rattle.estimate_c.specs.Given.{RoomGiven}
 
 -- ---- the call: 0, or the refusal's number; how many states; the two rooms
 

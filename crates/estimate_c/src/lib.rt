@@ -2,7 +2,14 @@
 // those of a table in words or of a lent row), and gives the answer as numbers.
 use estimate::analyse;
 use estimate::analyse_paired;
-use listing::Expansion;
+use given::bytes_of;
+use given::cache_named;
+use given::give_amount;
+use given::give_count;
+use given::give_outcome;
+use given::give_reading;
+use given::give_sizes;
+use given::give_time;
 use listing::expand;
 use longest::longest_path;
 use nightly::Built;
@@ -14,7 +21,6 @@ use questions::smallest_cycles_in;
 use questions::spread_in;
 use quick::within;
 use recorder::Counted;
-use recorder::Reading;
 use recorder::list_damaged;
 use recorder::read_trace;
 use recorder::write_trace;
@@ -23,19 +29,12 @@ use rows::above_cycles;
 use rows::smallest_budget;
 use rows::smallest_cycles;
 use rows::spread;
-use rules::Amount;
-use rules::Cache;
-use rules::Count;
 use rules::Length;
-use rules::Outcome;
-use rules::Start;
 use rules::State;
-use rules::Time;
 use text::curve_of_numbers;
 use text::curve_of_text;
 use text::cycles_of_numbers;
 use text::cycles_of_text;
-use writing::Written;
 ghost use mathlib.Core.Path.{_≡_};
 ghost use lib.ListN.{take};
 ghost use Rattle.rules.specs.Cycles.{aboveCyclesAnswer, cycleBudgetAnswer};
@@ -49,46 +48,10 @@ ghost use Rattle.estimate.specs.Call.{analysed, analysedPaired};
 ghost use Rattle.recorder.specs.Calls.{traceRead, traceListed, traceWritten};
 ghost use Rattle.nightly.specs.Call.{afterBuild};
 ghost use Rattle.text.specs.Rooms.{afterNumbers, afterText, afterCyclesOfNumbers, afterCyclesOfText};
-ghost use Rattle.estimate_c.specs.Given.{startGiven, cacheGiven, outcomeGiven, graphGiven, listingGiven, amountGiven, countGiven, timeGiven, lengthGiven, spreadGiven, readGiven, countedGiven, bytesOf, numbersGiven, textGiven, yesGiven, nightlyGiven};
+ghost use Rattle.given.specs.Answers.{cacheGiven, amountGiven, countGiven, timeGiven};
+ghost use Rattle.estimate_c.specs.Given.{graphGiven, listingGiven, lengthGiven, spreadGiven, readGiven, countedGiven, numbersGiven, textGiven, yesGiven, nightlyGiven};
 
 mod best_case;
-
-// How the cache is found: `warm` says that it was used.
-fn start_named(warm: bool) -> Start
-    ensures { λ r. ⌜ r ≡ startGiven warm ⌝ }
-{
-    if warm {
-        return Start::Warm;
-    }
-    Start::Cold
-}
-
-// The cache that the numbers name.
-fn cache_named(sets: u32, ways: u32, revision: u32, warm: bool) -> Cache
-    ensures { λ r. ⌜ r ≡ cacheGiven sets ways revision warm ⌝ }
-{
-    let start = start_named(warm);
-    Cache {
-        sets,
-        ways,
-        revision,
-        start,
-    }
-}
-
-// The answer of a graph call as a number, 0 or the refusal's; how many states there are, and what is set aside.
-fn give_outcome(answer: Outcome, states: &mut usize, aside: &mut u64) -> u64
-    ensures { λ r. ⌜ record { number = r; states = now (states .exit); aside = now (aside .exit) } ≡ outcomeGiven answer (now (states .entry)) (now (aside .entry)) ⌝ }
-{
-    match answer {
-        Outcome::Finished(count, units) => {
-            *states = count;
-            *aside = units.0;
-            0
-        }
-        Outcome::Refused(reason) => reason.number(),
-    }
-}
 
 // The graph call.
 #[no_mangle]
@@ -162,45 +125,6 @@ pub extern "C" fn estimate_graph_paired(
         states,
         aside,
     )
-}
-
-// The answer of a question as a number, 0 or the refusal's, and its value: units,
-fn give_amount(answer: Amount, units: &mut u64) -> u64
-    ensures { λ r. ⌜ record { number = r; value = now (units .exit) } ≡ amountGiven answer (now (units .entry)) ⌝ }
-{
-    match answer {
-        Amount::Units(found) => {
-            *units = found.0;
-            0
-        }
-        Amount::Refused(reason) => reason.number(),
-    }
-}
-
-// a miss count,
-fn give_count(answer: Count, misses: &mut u64) -> u64
-    ensures { λ r. ⌜ record { number = r; value = now (misses .exit) } ≡ countGiven answer (now (misses .entry)) ⌝ }
-{
-    match answer {
-        Count::Misses(found) => {
-            *misses = found;
-            0
-        }
-        Count::Refused(reason) => reason.number(),
-    }
-}
-
-// or cycles.
-fn give_time(answer: Time, cycles: &mut u64) -> u64
-    ensures { λ r. ⌜ record { number = r; value = now (cycles .exit) } ≡ timeGiven answer (now (cycles .entry)) ⌝ }
-{
-    match answer {
-        Time::Cycles(found) => {
-            *cycles = found;
-            0
-        }
-        Time::Refused(reason) => reason.number(),
-    }
 }
 
 // The units above a budget.
@@ -377,19 +301,9 @@ pub extern "C" fn estimate_trace_read(
     count: &mut usize,
     place: &mut usize,
 ) -> u64
-    ensures { λ r. ⌜ record { number = r; count = now (count .exit); place = now (place .exit); room = now (accesses .exit) } ≡ readGiven (traceRead (now (trace .entry)) (now (accesses .entry))) (now (count .entry)) (now (place .entry)) ⌝ }
+    ensures { λ r. ⌜ record { answer = record { number = r; count = now (count .exit); place = now (place .exit) }; room = now (accesses .exit) } ≡ readGiven (traceRead (now (trace .entry)) (now (accesses .entry))) (now (count .entry)) (now (place .entry)) ⌝ }
 {
-    match read_trace(trace, accesses) {
-        Reading::Accesses(found) => {
-            *count = found;
-            0
-        }
-        Reading::Damaged(first) => {
-            *place = first;
-            13
-        }
-        Reading::Refused(reason) => reason.number(),
-    }
+    give_reading(read_trace(trace, accesses), count, place)
 }
 
 // The places of a trace's damaged blocks.
@@ -435,17 +349,14 @@ pub extern "C" fn estimate_listing(
     access_count: &mut usize,
     edge_count: &mut usize,
 ) -> u64
-    ensures { λ r. ⌜ record { number = r; nodes = now (nodes .exit); accessCount = now («access_count» .exit); edgeCount = now («edge_count» .exit); runs = now (runs .exit); accesses = now (accesses .exit); edges = now (edges .exit) } ≡ listingGiven (afterExpanding (now (tokens .entry)) (now (runs .entry)) (now (accesses .entry)) (now (edges .entry))) (now (nodes .entry)) (now («access_count» .entry)) (now («edge_count» .entry)) ⌝ }
+    ensures { λ r. ⌜ record { answer = record { number = r; nodes = now (nodes .exit); accessCount = now («access_count» .exit); edgeCount = now («edge_count» .exit) }; runs = now (runs .exit); accesses = now (accesses .exit); edges = now (edges .exit) } ≡ listingGiven (afterExpanding (now (tokens .entry)) (now (runs .entry)) (now (accesses .entry)) (now (edges .entry))) (now (nodes .entry)) (now («access_count» .entry)) (now («edge_count» .entry)) ⌝ }
 {
-    match expand(tokens, runs, accesses, edges) {
-        Expansion::Graph(many_nodes, many_accesses, many_edges) => {
-            *nodes = many_nodes;
-            *access_count = many_accesses;
-            *edge_count = many_edges;
-            0
-        }
-        Expansion::Refused(reason) => reason.number(),
-    }
+    give_sizes(
+        expand(tokens, runs, accesses, edges),
+        nodes,
+        access_count,
+        edge_count,
+    )
 }
 
 // The nightly build; the report is written number by number.
@@ -479,16 +390,6 @@ pub extern "C" fn estimate_nightly(
             0
         }
         Built::Refused(reason) => reason.number(),
-    }
-}
-
-// How many bytes were written: 0 where a room is too short.
-fn bytes_of(written: Written) -> usize
-    ensures { λ r. ⌜ r ≡ bytesOf written ⌝ }
-{
-    match written {
-        Written::Bytes(n) => n,
-        Written::NoRoom => 0,
     }
 }
 

@@ -70,43 +70,62 @@ pub over-blocks : (E y : ℕ) → sumOn places (bit E) (λ i. y) ≡ size E * y
 unfolding size
 over-blocks E y = sym (sum-held (λ i. y) E) ∙ sum-each y (held E)
 
--- from C a block of A can go, from D a block of B
-module _ (N C A D B : ℕ) (f g : ℕ → ℕ) (s : Sub A B) (small : size B ≤ N)
-    (both : (i : ℕ) → i < places → bit A i ≡ true → f (without D i) ≤ g (without C i))
-    (one : (i : ℕ) → i < places → bit B i ≡ true → bit A i ≡ false → f (without D i) ≤ g C)
-    (none : size B < N → f D ≤ g C) where
-  block-by-block : sumOn places (bit B) (λ i. f (without D i)) + sumOn places (bit A) (λ i. g C)
-      ≤ sumOn places (bit A) (λ i. g (without C i)) + sumOn places (bit B) (λ i. g C)
+-- from C a block of A can go, from D a block of B, all of them blocks of E: way by way, one for each block of E and the others
+module _ (N C A D B E : ℕ) (f g : ℕ → ℕ) (a : Sub A E) (b : Sub B E) (small : size E ≤ N)
+    (each : (i : ℕ) → i < places → bit E i ≡ true → cond (bit B i) (f (without D i)) (f D) ≤ cond (bit A i) (g (without C i)) (g C))
+    (none : size E < N → f D ≤ g C) where
+  block-by-block : sumOn places (bit B) (λ i. f (without D i)) + (sumOn places (bit E) (λ i. f D) + sumOn places (bit A) (λ i. g C))
+      ≤ sumOn places (bit A) (λ i. g (without C i)) + (sumOn places (bit E) (λ i. g C) + sumOn places (bit B) (λ i. f D))
   block-by-block =
-      rw (← sum-add, ← sum-add)
-      (sum-le places _ _ (λ i l. go i (bit A i) (bit B i) (s i) (both i l) (one i l)))
+      rw (← sum-add, ← sum-add, ← sum-add, ← sum-add)
+      (sum-le places _ _ (λ i l. go i (bit A i) (bit B i) (bit E i) (a i) (b i) (each i l)))
     where
-      go : (i : ℕ) (c d : Bool) → (c ≡ true → d ≡ true) → (c ≡ true → f (without D i) ≤ g (without C i))
-          → (d ≡ true → c ≡ false → f (without D i) ≤ g C)
-          → cond d (f (without D i)) 0 + cond c (g C) 0 ≤ cond c (g (without C i)) 0 + cond d (g C) 0
-      go i true true t a b = omega (arith, a refl)
-      go i true false t a b = absurd (true≢false (sym (t refl)))
-      go i false true t a b = omega (arith, b refl refl)
-      go i false false t a b = omega arith
+      go : (i : ℕ) (x y z : Bool) → (x ≡ true → z ≡ true) → (y ≡ true → z ≡ true) → (z ≡ true → cond y (f (without D i)) (f D) ≤ cond x (g (without C i)) (g C))
+          → cond y (f (without D i)) 0 + (cond z (f D) 0 + cond x (g C) 0) ≤ cond x (g (without C i)) 0 + (cond z (g C) 0 + cond y (f D) 0)
+      go i true true true s t e = omega (arith, e refl)
+      go i true false true s t e = omega (arith, e refl)
+      go i false true true s t e = omega (arith, e refl)
+      go i false false true s t e = omega (arith, e refl)
+      go i true y false s t e = absurd (true≢false (sym (s refl)))
+      go i false true false s t e = absurd (true≢false (sym (t refl)))
+      go i false false false s t e = omega arith
 
-  pub overWays-rises : overWays N D B f ≤ overWays N C A g
-  overWays-rises =
-      let (r, e, d) = others N (size B) small in
-      let (q, e′, d′) = others N (size A) (omega (arith, size-sub A B s)) in
-      rw (over-places N D B f, over-places N C A g, d, d′)
+  pub way-by-way : overWays N D B f ≤ overWays N C A g
+  way-by-way =
+      let (r, e, d) = others N (size E) small in
+      let (p, e′, d′) = others N (size A) (omega (arith, size-sub A E a)) in
+      let (q, e″, d″) = others N (size B) (omega (arith, size-sub B E b)) in
+      rw (over-places N D B f, over-places N C A g, d′, d″)
       (omega (
         arith,
         block-by-block,
         over-blocks A (g C),
-        over-blocks B (g C),
+        over-blocks B (f D),
+        over-blocks E (f D),
+        over-blocks E (g C),
         last r e,
+        ap (λ (n : ℕ). n * f D) e,
         ap (λ (n : ℕ). n * g C) e,
         ap (λ (n : ℕ). n * g C) e′,
+        ap (λ (n : ℕ). n * f D) e″,
       ))
     where
-      last : (r : ℕ) → N ≡ size B + r → r * f D ≤ r * g C
+      last : (r : ℕ) → N ≡ size E + r → r * f D ≤ r * g C
       last zero e = omega arith
       last (suc r) e = mul-le-mul-left (suc r) (none (omega arith))
+
+-- where whatever can go from C can go from D
+module _ (N C A D B : ℕ) (f g : ℕ → ℕ) (s : Sub A B) (small : size B ≤ N)
+    (both : (i : ℕ) → i < places → bit A i ≡ true → f (without D i) ≤ g (without C i))
+    (one : (i : ℕ) → i < places → bit B i ≡ true → bit A i ≡ false → f (without D i) ≤ g C)
+    (none : size B < N → f D ≤ g C) where
+  pub overWays-rises : overWays N D B f ≤ overWays N C A g
+  overWays-rises = way-by-way N C A D B B f g s (λ i h. h) small (λ i l h. rw h (go i (bit A i) (both i l) (one i l h))) none
+    where
+      go : (i : ℕ) (a : Bool) → (a ≡ true → f (without D i) ≤ g (without C i)) → (a ≡ false → f (without D i) ≤ g C)
+          → f (without D i) ≤ cond a (g (without C i)) (g C)
+      go i true p q = p refl
+      go i false p q = q refl
 
 -- where each way gives at most y, or at least y
 module _ (N C E y : ℕ) (g : ℕ → ℕ) (small : size E ≤ N) where

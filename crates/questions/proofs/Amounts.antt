@@ -1,38 +1,21 @@
 -- What is asked of a table in words: what the loops of `sums` compute. A loop goes through the states from the front; what is found so far
 -- and what is left give the whole. The search by halves keeps a budget that serves, and below it only such as do not.
-use mathlib.Core.Path.{_≡_, sym, _∙_}
+use mathlib.Core.Path.{_≡_}
 use mathlib.Core.Bool.{cond}
 use mathlib.Core.List.{List}
-use Prim.Native.Nat.{ℕ, _+_, _/_, _≤_, _<_, max}
-use native.Mathlib.Nat.{max-zero}
+use Prim.Native.Nat.{ℕ, _+_, _/_, _≤_, _<_}
 use native.Mathlib.Omega.{arith}
 use lib.Dec.{ltb}
 use lib.ListN.{length, drop}
 use Rattle.rules.specs.declared.State.{State}
-use Rattle.rules.specs.Counts.{above as aboveAny, largest as largestAny}
+use Rattle.rules.specs.Counts.{above as aboveAny}
 use Rattle.rules.specs.Table.{unitsOf, stateAt}
 use Rattle.rules.specs.Questions.{largest, above, smallestBudget}
 use Rattle.rules.proofs.Questions.{above-largest, above-falls, smallest-is}
 use Rattle.words.specs.Tables.{tableOf}
 use Rattle.words.proofs.Tables.{state-next, state-end}
 
-max-assoc : (a b c : ℕ) → max (max a b) c ≡ max a (max b c)
-max-assoc a b c = omega arith
-
 module _ (ws : List ℕ) (i : ℕ) where
-  -- ---- the largest miss count
-
-  module _ (most : ℕ) (rest : max most (largest (drop i (tableOf ws))) ≡ largest (tableOf ws)) where
-    pub largest-next : i < length ws / 5 → (s : State) → s ≡ stateAt (tableOf ws) i → (m : ℕ) → m ≡ max most (s .misses)
-        → max m (largest (drop (i + 1) (tableOf ws))) ≡ largest (tableOf ws)
-    unfolding largestAny
-    largest-next h s e m f =
-        rw (f, e, max-assoc most (stateAt (tableOf ws) i .misses) (largest (drop (i + 1) (tableOf ws)))) (state-next (λ T. max most (largest T)) ws i (largest (tableOf ws)) rest h)
-
-    pub largest-end : length ws / 5 ≤ i → most ≡ largest (tableOf ws)
-    unfolding largestAny
-    largest-end h = sym (max-zero most) ∙ state-end (λ T. max most (largest T)) ws i (largest (tableOf ws)) rest h
-
   -- ---- the units above a budget
 
   module _ (B sum : ℕ) (rest : sum + above B (drop i (tableOf ws)) ≡ above B (tableOf ws)) where

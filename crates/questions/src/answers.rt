@@ -1,8 +1,8 @@
 // The answers: 7 for words that hold no table, then 8 for room that is too short.
 use crate::counts::fill;
-use crate::sums::largest;
 use crate::sums::smallest;
 use crate::sums::units_above;
+use cycle_check::largest;
 use rules::Amount;
 use rules::Count;
 use rules::Refusal;

@@ -1,41 +1,20 @@
 // Questions in cycles: document 02, request 9/13. On every core a miss takes longer than a hit, so that the cycles of the longest path rise with
 // its misses, and a cycle budget stands for a miss budget.
-use crate::sums::largest;
 use crate::sums::smallest;
 use crate::sums::units_above;
+use cycle_check::judged;
 use rules::Amount;
 use rules::Core;
-use rules::Refusal;
 use rules::Time;
 use rules::Units;
 use rules::Verdict;
 use rules::core_at;
-use table_check::is_table;
 ghost use mathlib.Core.Path.{_≡_};
 ghost use Prim.Native.Nat.{_-_, _/_, _≤_, _<_};
 ghost use Rattle.rules.specs.declared.Verdict.the-variants.{Accepted};
 ghost use Rattle.rules.specs.Answers.{first};
 ghost use Rattle.rules.specs.Cycles.{coreAt, cyclesOf, aboveCycles, smallestCycles, cycleReasons, aboveCyclesAnswer, cycleBudgetAnswer};
 ghost use Rattle.words.specs.Tables.{tableOf};
-
-// What is decided before any work: 16, then 4, then 7.
-pub(crate) fn judged(words: &[u64], core: usize, longest: u64) -> Verdict
-    ensures { λ r. ⌜ r ≡ first (cycleReasons core longest (tableOf (now (words .entry)))) ⌝ }
-{
-    if 12 <= core {
-        return Verdict::Refused(Refusal::NoCore);
-    }
-    if 4096 < longest {
-        return Verdict::Refused(Refusal::Accesses);
-    }
-    if !is_table(words) {
-        return Verdict::Refused(Refusal::Row);
-    }
-    if longest < largest(words) {
-        return Verdict::Refused(Refusal::Row);
-    }
-    Verdict::Accepted
-}
 
 // The cycles of a path of so many accesses and misses.
 pub(crate) fn cycles_of(core: Core, accesses: u64, misses: u64) -> u64

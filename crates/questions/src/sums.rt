@@ -1,27 +1,13 @@
-// What is asked of a table in words: the largest miss count, the units above a budget, the smallest budget.
+// What is asked of a table in words: the units above a budget, the smallest budget.
 use crate::states::part_above;
-use basics::larger;
+use cycle_check::largest;
 use words::state_at;
 ghost use mathlib.Core.Path.{_≡_};
 ghost use Prim.Native.Nat.{_≤_};
 ghost use Rattle.rules.specs.Units.{whole};
 ghost use Rattle.rules.specs.Table.{total};
-ghost use Rattle.rules.specs.Questions.{largest as largestOf, above, smallestBudget};
+ghost use Rattle.rules.specs.Questions.{above, smallestBudget};
 ghost use Rattle.words.specs.Tables.{tableOf};
-
-// The largest miss count present.
-pub(crate) fn largest(words: &[u64]) -> u64
-    ensures { λ r. ⌜ r ≡ largestOf (tableOf (now (words .entry))) ⌝ }
-{
-    let n = words.len() / 5;
-    let mut most: u64 = 0;
-    let mut i: usize = 0;
-    while i < n {
-        most = larger(most, state_at(words, i).misses);
-        i += 1;
-    }
-    most
-}
 
 // The units of the states with more misses than `budget`.
 pub(crate) fn units_above(words: &[u64], budget: u64) -> u64

@@ -153,27 +153,24 @@ unfolding aimedAt
 aimed-so Z ts few known l b x e = e ∙ rw (le-leb (length ts) 16 few, known)
 
 -- one of sixteen places
-module _ (C i : ℕ) (l : i < 16) where
-  in-mask : i % 64 ≡ i
-  in-mask = omega arith
+in-mask : (i : ℕ) → i < 16 → i % 64 ≡ i
+in-mask i l = omega arith
 
+module _ (C i : ℕ) (l : i < 16) where
   pub has-there : (r : Bool) → r ≡ bit C (i % 64) → r ≡ bit C i
-  has-there r e = e ∙ ap (bit C) in-mask
+  has-there r e = e ∙ ap (bit C) (in-mask i l)
 
   pub without-there : (D : ℕ) → D ≡ without C (i % 64) → D ≡ without C i
-  without-there D e = e ∙ ap (without C) in-mask
+  without-there D e = e ∙ ap (without C) (in-mask i l)
 
 -- a block that was looked up among sixteen
-module _ (C : ℕ) (x : Place) (h : Listed 16 x) where
-  in-word : inWord x ≡ x
-  in-word = go x h
-    where
-      go : (x : Place) → Listed 16 x → inWord x ≡ x
-      go (at i) h = ap at (in-mask C i (h i refl))
-      go untracked h = refl
+pub in-word : (x : Place) → Listed 16 x → inWord x ≡ x
+in-word (at i) h = ap at (in-mask i (h i refl))
+in-word untracked h = refl
 
+module _ (C : ℕ) (x : Place) (h : Listed 16 x) where
   pub has-listed : (a r : Bool) → r ≡ has C a (inWord x) → r ≡ has C a x
-  has-listed a r e = e ∙ ap (has C a) in-word
+  has-listed a r e = e ∙ ap (has C a) (in-word x h)
 
   pub with-listed : (D : ℕ) → D ≡ with C (inWord x) → D ≡ with C x
-  with-listed D e = e ∙ ap (with C) in-word
+  with-listed D e = e ∙ ap (with C) (in-word x h)

@@ -208,13 +208,3 @@ module _ {A : Type 0} (states : Listing A) where
 
     pub table-long : p * 64 + 64 ≤ length T → m ≡ length (tableIn states p T)
     table-long long = sym (ap length (sym counted) ∙ stretch-long (p * 64) m T (omega (arith, counted-few)))
-
--- ---- zeros behind a table
-
-pub zeros-rest : (n k : ℕ) → k ≤ n → drop {A = ℕ} k (replicate n 0) ≡ replicate (n - k) 0
-zeros-rest n k l =
-    ap (drop {A = ℕ} k) (ap (λ (m : ℕ). replicate {A = ℕ} m 0) all ∙ sym (replicate-append-replicate k (n - k) 0))
-    ∙ drop-at {A = ℕ} (replicate k 0) (replicate (n - k) 0) k (length-replicate {A = ℕ} k 0)
-  where
-    all : n ≡ k + (n - k)
-    all = omega arith

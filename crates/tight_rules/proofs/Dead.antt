@@ -5,10 +5,9 @@ use mathlib.Core.Path.{_≡_, refl, sym, ap, _∙_}
 use mathlib.Core.Logic.{_⊎_, inl, inr}
 use mathlib.Core.Bool.{Bool, true, false, cond, true≢false}
 use mathlib.Core.List.{List, [], _∷_}
-use Prim.Native.Nat.{ℕ, zero, suc, _+_, _-_, _*_, _≤_, _<_}
+use Prim.Native.Nat.{ℕ, suc, _*_, _≤_, _<_}
 use native.Mathlib.Nat.{le-refl, le-trans, mul-le-mul-left, lt-of-le-of-lt}
 use native.Mathlib.Omega.{arith}
-use Rattle.basics.proofs.Sums.{sumOn, sum-le, sum-add}
 use Rattle.rules.specs.declared.Place.{Place}
 use Rattle.rules.specs.declared.Place.the-variants.{At as at, Untracked as untracked}
 use Rattle.rules.specs.declared.Target.{Target}
@@ -20,8 +19,8 @@ use Rattle.rules.specs.Shape.{Aimed, Room}
 use Rattle.rules.proofs.Contents.{Sub, size-sub, size-without, with-cases, with-keeps, with-new, without-keeps, without-gone, sub-without, sub-into-without, sub-shared-left, sub-shared-right}
 use Rattle.rules.proofs.Sets.{both-shared, sub-shared, risk-set, risk-full, risk-sub, room-risk, room-joined, room-moved}
 use Rattle.rules.proofs.Table.{Weight}
-use Rattle.rules.proofs.Step.{overWays, ahead, others}
-use Rattle.promises.proofs.Value.{Rises, over-places, over-blocks}
+use Rattle.rules.proofs.Step.{overWays, ahead}
+use Rattle.promises.proofs.Value.{Rises, way-by-way}
 
 -- fewer blocks have room where more have
 pub room-part : (N Z : ℕ) (ts : List ℕ) (C D : ℕ) (F : Filled) → Sub C D → Room N Z ts D F → Room N Z ts C F
@@ -44,38 +43,13 @@ module _ (N C A D B : ℕ) (g : ℕ → ℕ) (s : Sub B A) (small : size A ≤ N
     (both : (i : ℕ) → i < places → bit B i ≡ true → g (without D i) ≤ g (without C i))
     (one : (i : ℕ) → i < places → bit A i ≡ true → bit B i ≡ false → g D ≤ g (without C i))
     (none : size A < N → g D ≤ g C) where
-  block-by-block : sumOn places (bit B) (λ i. g (without D i)) + sumOn places (bit A) (λ i. g D)
-      ≤ sumOn places (bit A) (λ i. g (without C i)) + sumOn places (bit B) (λ i. g D)
-  block-by-block =
-      rw (← sum-add, ← sum-add)
-      (sum-le places _ _ (λ i l. go i (bit A i) (bit B i) (s i) (both i l) (one i l)))
-    where
-      go : (i : ℕ) (a b : Bool) → (b ≡ true → a ≡ true) → (b ≡ true → g (without D i) ≤ g (without C i))
-          → (a ≡ true → b ≡ false → g D ≤ g (without C i))
-          → cond b (g (without D i)) 0 + cond a (g D) 0 ≤ cond a (g (without C i)) 0 + cond b (g D) 0
-      go i true true t p q = omega (arith, p refl)
-      go i true false t p q = omega (arith, q refl refl)
-      go i false true t p q = absurd (true≢false (sym (t refl)))
-      go i false false t p q = omega arith
-
   overWays-falls : overWays N D B g ≤ overWays N C A g
-  overWays-falls =
-      let (r, e, d) = others N (size A) small in
-      let (q, e′, d′) = others N (size B) (omega (arith, size-sub B A s)) in
-      rw (over-places N D B g, over-places N C A g, d, d′)
-      (omega (
-        arith,
-        block-by-block,
-        over-blocks A (g D),
-        over-blocks B (g D),
-        last r e,
-        ap (λ (n : ℕ). n * g D) e,
-        ap (λ (n : ℕ). n * g D) e′,
-      ))
+  overWays-falls = way-by-way N C A D B A g g (λ i h. h) s small (λ i l h. rw h (go i (bit B i) (both i l) (one i l h))) none
     where
-      last : (r : ℕ) → N ≡ size A + r → r * g D ≤ r * g C
-      last zero e = omega arith
-      last (suc r) e = mul-le-mul-left (suc r) (none (omega arith))
+      go : (i : ℕ) (b : Bool) → (b ≡ true → g (without D i) ≤ g (without C i)) → (b ≡ false → g D ≤ g (without C i))
+          → cond b (g (without D i)) (g D) ≤ g (without C i)
+      go i true p q = p refl
+      go i false p q = q refl
 
 module _ (N Z : ℕ) (ts : List ℕ) (few : N ≤ 16) (x : Target) (aim : Aimed Z ts x) (L : ℕ) (live : (i : ℕ) → x .place ≡ at i → bit L i ≡ true) where
   -- a hit is a hit with the dead blocks and without

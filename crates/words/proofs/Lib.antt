@@ -4,3 +4,5 @@ pub mod Spans
 pub mod Tables
 -- The best case's tables in words
 pub mod BestTables
+-- What is handed over
+pub mod Handing

@@ -11,7 +11,8 @@ use Rattle.rules.proofs.Refusals.{checked}
 use Rattle.rules.proofs.Entries.{no-entries}
 use Rattle.words.specs.Tables.{tableOf}
 use Rattle.estimate.specs.Call.{handed}
-use Rattle.estimate.proofs.Calls.{no-form, leaves-refused, leaves-finished, last-table, last-aside, finished-fits}
+use Rattle.calls.proofs.Leaving.{leaves-refused, leaves-finished}
+use Rattle.estimate.proofs.Calls.{no-form, last-table, last-aside, finished-fits}
 use borrow.Author.Needs.{needs}
 use Rattle.estimate.proofs.analyse.Statement.{statement}
 use Rattle.estimate.proofs.analyse.Tie as tie

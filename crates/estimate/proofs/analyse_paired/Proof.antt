@@ -1,7 +1,7 @@
 -- `analyse_paired` gives the verdict of the checks; where there is no refusal, all is left to `work_paired`.
 use mathlib.Core.Path.{sym, _∙_}
 use denote.Ref.{now}
-use Rattle.estimate.proofs.Calls.{paired-refused-so}
+use Rattle.calls.proofs.Leaving.{paired-refused-so}
 use borrow.Author.Needs.{needs}
 use Rattle.estimate.proofs.analyse_paired.Statement.{statement}
 use Rattle.estimate.proofs.analyse_paired.Tie as tie

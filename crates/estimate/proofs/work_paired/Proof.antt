@@ -7,7 +7,8 @@ use Rattle.rules.specs.Entries.{entryOf}
 use Rattle.rules.proofs.Refusals.{checked}
 use Rattle.words.specs.Tables.{tableOf}
 use Rattle.estimate.specs.Call.{handed}
-use Rattle.estimate.proofs.Calls.{form-of, formed-so, unformed, fit-so, leaves-unfit, leaves-paired, last-table, last-aside, finished-fits}
+use Rattle.calls.proofs.Leaving.{leaves-unfit, leaves-paired}
+use Rattle.estimate.proofs.Calls.{form-of, formed-so, unformed, fit-so, last-table, last-aside, finished-fits}
 use borrow.Author.Tests.{not-true, not-false}
 use borrow.Author.Needs.{needs}
 use Rattle.estimate.proofs.work_paired.Statement.{statement}
@@ -15,9 +16,9 @@ use Rattle.estimate.proofs.work_paired.Tie as tie
 
 returns : tie.Need-returns
 returns c = let a = c .before .before .before .before .before .before .before .before .before .before .before .before .before .before .before .args in
-    leaves-unfit (a .cache) (a .limit) (now (a .tracked)) (now (a .runs)) (now (a .accesses)) (now (a .edges)) (now (a .counts)) (now (a .rows)) (now (a .result)) (now (a .work)) _ (c .before .before .before .before .before .before .before .before .before .before .before .before .before .before .before .pre)
+    leaves-unfit (a .cache) (a .limit) (now (a .tracked)) (now (a .runs)) (now (a .accesses)) (now (a .edges)) (now (a .counts)) (now (a .rows)) (now (a .result)) (now (a .work)) _ _ (c .before .before .before .before .before .before .before .before .before .before .before .before .before .before .before .pre)
     (unformed (a .cache) (a .limit) (now (a .tracked)) (now (a .runs)) (now (a .accesses)) (now (a .edges)) (now (a .counts)) (now (a .rows)) (now (a .result)) (now (a .work)) _ (form-of _ (now (a .edges)) (now (a .runs)) _ _ (c .before .before .before .before .before .before .joins-to .ensures) (c .before .before .before .before .before .in-form .ensures)) (not-true _ (c .before .before .before .before .if1 .taken)))
-    (c .before .before .clear .ensures)
+    (c .before .before .refuse-pairing .ensures .0) (c .before .before .refuse-pairing .ensures .1)
 
 work-nodes-requires : tie.Need-work-nodes-requires
 work-nodes-requires c κs = let a = c .before .before .before .before .before .before .before .before .before .before .before .before .args in
@@ -27,9 +28,9 @@ work-nodes-requires c κs = let a = c .before .before .before .before .before .b
 returns-2 : tie.Need-returns-2
 returns-2 c = let a = c .before .before .before .before .before .before .before .before .before .before .before .before .before .before .before .before .before .before .before .before .before .args in
     let g = c .before .before .before .before .before .before .before .before .work-nodes in
-    leaves-unfit (a .cache) (a .limit) (now (a .tracked)) (now (a .runs)) (now (a .accesses)) (now (a .edges)) (now (a .counts)) (now (a .rows)) (now (a .result)) (now (a .work)) _ (c .before .before .before .before .before .before .before .before .before .before .before .before .before .before .before .before .before .before .before .before .before .pre)
+    leaves-unfit (a .cache) (a .limit) (now (a .tracked)) (now (a .runs)) (now (a .accesses)) (now (a .edges)) (now (a .counts)) (now (a .rows)) (now (a .result)) (now (a .work)) _ _ (c .before .before .before .before .before .before .before .before .before .before .before .before .before .before .before .before .before .before .before .before .before .pre)
     (fit-so (a .cache) (a .limit) (now (a .tracked)) (now (a .runs)) (now (a .accesses)) (now (a .edges)) (now (a .counts)) (now (a .rows)) (now (a .result)) (now (a .work)) _ _ (form-of _ (now (a .edges)) (now (a .runs)) _ _ (c .before .before .before .before .before .before .before .before .before .before .before .before .joins-to .ensures) (c .before .before .before .before .before .before .before .before .before .before .before .in-form .ensures)) (not-false _ (c .before .before .before .before .before .before .before .before .before .before .if1 .left)) (g .ensures .1) ∙ not-true _ (c .before .before .before .before .if2 .taken))
-    (rw (g .kept .0) at (c .before .before .clear2 .ensures))
+    (c .before .before .refuse-pairing2 .ensures .0) (rw (g .kept .0) at (c .before .before .refuse-pairing2 .ensures .1))
 
 sub-hand-over : tie.Need-sub-hand-over
 sub-hand-over c = omega (arith, checked _ (c .before .before .before .before .before .before .before .before .before .before .before .before .before .before .before .before .before .before .before .pre) .some-nodes)

@@ -1,5 +1,5 @@
 -- `estimate_above_cycles` gives what `above_cycles_in` answers: 0 and the units, or the number of the refusal.
-use Rattle.estimate_c.specs.Given.{amountGiven}
+use Rattle.given.specs.Answers.{amountGiven}
 use Rattle.estimate_c.proofs.Given.{value-given}
 use borrow.Author.Needs.{needs}
 use Rattle.estimate_c.proofs.estimate_above_cycles.Statement.{statement}

@@ -7,29 +7,17 @@ use Rattle.estimate_c.proofs.estimate_listing.Tie as tie
 
 returns : tie.Need-returns
 returns c =
-    let done = c .before .before .before .before .before .before .before .before .before in
-    let a = done .before .before .before .before .before .before .before .before .args in
-    listing-given _ (now (a .nodes)) (now (a .access-count)) (now (a .edge-count)) (c .before .many-nodes .given .1) (done .expand .ensures)
-
-returns-2 : tie.Need-returns-2
-returns-2 c =
-    let done = c .before .before .before .before .before .before .before .before .before .before in
-    let a = done .before .before .before .before .before .before .before .before .args in
-    rw (c .number .ensures) (listing-given _ (now (a .nodes)) (now (a .access-count)) (now (a .edge-count)) (c .before .before .reason .given .1) (done .expand .ensures))
+    let called = c .before .before .before .before .before .before .before .before .before .before in
+    let a = called .before .before .before .before .before .before .before .before .args in
+    listing-given (now (a .nodes)) (now (a .access-count)) (now (a .edge-count)) (c .give-sizes .ensures) (called .expand .ensures)
 
 pub estimate-listing-spec : {M : Type 1} → statement M
 estimate-listing-spec =
     tie.close
     (tie.spec
     (λ c κs. search needs)
-    (λ c. search needs)
-    (λ c. search needs)
     (λ c κs. search needs)
     (λ c. search needs)
     (λ c. search needs)
     (λ c. search needs)
-    returns
-    (λ c. search needs)
-    (λ c. search needs)
-    (λ c. search needs)
-    returns-2)
+    returns)

@@ -34,11 +34,12 @@ use Rattle.rows.proofs.Walk.{Claim, claims, Keeps, Alive, asks, leaves, within,
 use Rattle.rows.proofs.spread as spread
 use Rattle.rows.proofs.spread.Symbol.{name as #spread, routine as spread-routine}
 use Rattle.rows.proofs.spread.Met as spread-thm
-use Rattle.estimate_c.specs.Given.{countGiven, spreadGiven}
+use Rattle.given.specs.Answers.{countGiven}
+use Rattle.estimate_c.specs.Given.{spreadGiven}
 use Rattle.estimate_c.proofs.Given.{spread-given}
 use Rattle.estimate_c.proofs.Giving.{Give, Gave, gives}
-use Rattle.estimate_c.proofs.give_count.Symbol.{name as #give-count, routine as give-count-routine}
-use Rattle.estimate_c.proofs.give_count.Met as give-count-thm
+use Rattle.given.proofs.give_count.Symbol.{name as #give-count, routine as give-count-routine}
+use Rattle.given.proofs.give_count.Met as give-count-thm
 use Rattle.estimate_c.proofs.estimate_row_spread as exported
 use Rattle.estimate_c.proofs.estimate_row_spread.Key.{name as #estimate-row-spread}
 use Rattle.estimate_c.proofs.estimate_row_spread.Statement.{statement}
@@ -112,5 +113,5 @@ estimate-row-spread-spec 𝓤 H 𝓜 𝓖 𝓡 =
     (λ κs. (shr-slice-tells (named 0) (κs .0) (StateT document-01), (mut-slice-tells (named 1) (κs .1 .0) u64, (mut-tells (named 2) (κs .1 .1 .0) u64, tt))))
     (λ κs qs bounds a are. walk 𝓤 H A W (κs .0) (κs .1 .0) (κs .1 .1 .0) (qs .0) (qs .1 .0) (qs .1 .1 .0) (a .0) (a .1 .0) (a .1 .1 .0) (within 𝓤 H 𝓜 𝓡 code.env)
     (known 𝓤 H 𝓜 𝓖 𝓡 code.env spread.ended Spread #spread spread-routine code.calls-rows·spread (spread-thm.met 𝓤 H 𝓜 𝓖 𝓡))
-    (known 𝓤 H 𝓜 𝓖 𝓡 code.env (Give count.the-type countGiven) (Gave count.the-type countGiven) #give-count give-count-routine code.calls-estimate-c·give-count (give-count-thm.met 𝓤 H 𝓜 𝓖 𝓡))
+    (known 𝓤 H 𝓜 𝓖 𝓡 code.env (Give count.the-type countGiven) (Gave count.the-type countGiven) #give-count give-count-routine code.calls-given·give-count (give-count-thm.met 𝓤 H 𝓜 𝓖 𝓡))
     (are .0 .0 .1) (are .1 .0 .0 .1))

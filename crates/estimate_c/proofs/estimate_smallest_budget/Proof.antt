@@ -1,5 +1,5 @@
 -- `estimate_smallest_budget` gives what `smallest_budget_in` answers: 0 and the budget, or the number of the refusal.
-use Rattle.estimate_c.specs.Given.{countGiven}
+use Rattle.given.specs.Answers.{countGiven}
 use Rattle.estimate_c.proofs.Given.{value-given}
 use borrow.Author.Needs.{needs}
 use Rattle.estimate_c.proofs.estimate_smallest_budget.Statement.{statement}

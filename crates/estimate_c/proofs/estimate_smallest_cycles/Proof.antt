@@ -1,5 +1,5 @@
 -- `estimate_smallest_cycles` gives what `smallest_cycles_in` answers: 0 and the cycles, or the number of the refusal.
-use Rattle.estimate_c.specs.Given.{timeGiven}
+use Rattle.given.specs.Answers.{timeGiven}
 use Rattle.estimate_c.proofs.Given.{value-given}
 use borrow.Author.Needs.{needs}
 use Rattle.estimate_c.proofs.estimate_smallest_cycles.Statement.{statement}

@@ -8,34 +8,9 @@ use Rattle.estimate_c.proofs.estimate_trace_read.Tie as tie
 
 returns : tie.Need-returns
 returns c =
-    let r = c .before .before .before .before .before in
-    let a = r .before .before .before .before .args in
-    read-given _ (now (a .count)) (now (a .place)) (c .before .found .given .1) (r .read-trace .ensures)
-
-returns-2 : tie.Need-returns-2
-returns-2 c =
-    let r = c .before .before .before .before .before in
-    let a = r .before .before .before .before .args in
-    read-given _ (now (a .count)) (now (a .place)) (c .before .first .given .1) (r .read-trace .ensures)
-
-returns-3 : tie.Need-returns-3
-returns-3 c =
-    let r = c .before .before .before .before .before .before in
-    let a = r .before .before .before .before .args in
-    rw (c .number .ensures) (read-given _ (now (a .count)) (now (a .place)) (c .before .before .reason .given .1) (r .read-trace .ensures))
+    let called = c .before .before .before .before .before in
+    let a = called .before .before .before .before .args in
+    read-given (now (a .count)) (now (a .place)) (c .give-reading .ensures) (called .read-trace .ensures)
 
 pub estimate-trace-read-spec : {M : Type 1} → statement M
-estimate-trace-read-spec =
-    tie.close
-    (tie.spec
-    (λ c κs. search needs)
-    (λ c. search needs)
-    (λ c. search needs)
-    (λ c. search needs)
-    (λ c κs. search needs)
-    (λ c. search needs)
-    returns
-    (λ c. search needs)
-    returns-2
-    (λ c. search needs)
-    returns-3)
+estimate-trace-read-spec = tie.close (tie.spec (λ c κs. search needs) (λ c κs. search needs) (λ c. search needs) returns)

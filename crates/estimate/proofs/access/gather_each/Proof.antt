@@ -14,6 +14,7 @@ use Rattle.rules.proofs.Splitting.{units-added}
 use Rattle.rules.specs.Step.{successors}
 use Rattle.rules.proofs.Table.{states-lawful}
 use Rattle.tables.proofs.Following.{gathered, gathered-none, gathered-rising, gathered-next, gathered-room, gathered-all}
+use Rattle.states.proofs.Steps.{over-so}
 use Rattle.estimate.proofs.Following.{follows-few, asideTo, aside-start, aside-next, aside-all, workable-at}
 use borrow.Author.Needs.{needs}
 use Rattle.estimate.proofs.access.gather_each.Statement.{statement}
@@ -60,7 +61,7 @@ loop-again c = let b = c .before .before .before .before .before .before .before
       followed .kept .0 ∙ l .inv .1,
       rw (← gathered-next listing (successors (a .ways) (a .x)) S (l .i) (c .before .before .before .before .before .before .load .result) (omega arith) read)
           (scratch-more listing _ _ _ _ (l .inv .2) _ _ _ (followed .ensures)),
-      aside-next (a .ways) (a .x) S _ (l .i) _ _ _ _ (omega arith) read (l .inv .3) (c .before .left-over .ensures) (units-added _ _ _ (c .add .ensures)),
+      aside-next (a .ways) (a .x) S _ (l .i) _ _ _ _ (omega arith) read (l .inv .3) (over-so (a .x) (p .0 .0) (p .0 .1) _ _ _ (c .before .left-over .ensures)) (units-added _ _ _ (c .add .ensures)),
     )
 
 returns : tie.Need-returns Inv-loop μ-loop

@@ -6,6 +6,7 @@ use denote.Ref.{now}
 use Rattle.words.specs.Tables.{tableOf}
 use Rattle.words.proofs.Tables.{fits-table}
 use Rattle.tables.proofs.Masks.{has-there, without-there}
+use Rattle.states.proofs.Steps.{missed-so}
 use Rattle.estimate.specs.Following.{missedFrom}
 use Rattle.rules.specs.Table.{listing}
 use Rattle.tables.proofs.Following.{lost-here, lost-none}
@@ -16,10 +17,11 @@ use Rattle.estimate.proofs.access.lose_one.Tie as tie
 returns : tie.Need-returns
 returns c = let m = c .before .before .before in
     let h = m .before .before .before in
-    let low = h .before .before .before .pre .2 in
+    let p = h .before .before .before .pre in
+    let low = p .2 in
     let a = h .before .before .before .args in
     lost-here listing _ _ _ (sym (has-there _ _ low _ (h .before .has-place .ensures)) ∙ h .if1 .taken) _ _ _ _ _
-    (m .missed .ensures ∙ ap (λ (C : ℕ). missedFrom (a .x) (a .s) C (a .part .0)) (without-there _ _ low _ (m .before .without-place .ensures))) (c .before .before .add .ensures)
+    (missed-so (a .x) (p .0) (a .s) _ (p .1) _ _ (m .missed .ensures) ∙ ap (λ (C : ℕ). missedFrom (a .x) (a .s) C (a .part .0)) (without-there _ _ low _ (m .before .without-place .ensures))) (c .before .before .add .ensures)
 
 returns-2 : tie.Need-returns-2
 returns-2 c = let a = c .before .before .before .args in

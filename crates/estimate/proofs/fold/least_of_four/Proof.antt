@@ -1,4 +1,4 @@
--- `least_of_four` takes the fewer of each two, and then the fewer of these.
+-- `least_of_four` takes the fewest of four states' units.
 use borrow.Author.Needs.{needs}
 use Rattle.estimate.proofs.Folding.{fewest-four}
 use Rattle.estimate.proofs.fold.least_of_four.Statement.{statement}
@@ -6,12 +6,10 @@ use Rattle.estimate.proofs.fold.least_of_four.Tie as tie
 
 returns : tie.Need-returns
 returns c =
-    let second = c .before in
-    let fourth = second .before in
+    let fourth = c .before in
     let third = fourth .before in
-    let first = third .before in
-    fewest-four _ _ _ _ _ _ (first .before .before .load .ensures) (first .before .load2 .ensures) (third .load3 .ensures) (fourth .load4 .ensures) _ _ _
-    (first .smaller .ensures) (second .smaller2 .ensures) (c .smaller3 .ensures)
+    let second = third .before in
+    fewest-four _ _ _ _ _ _ (second .before .load .ensures) (second .load2 .ensures) (third .load3 .ensures) (fourth .load4 .ensures) _ (c .fewest-of-four .ensures)
 
 pub least-of-four-spec : {M : Type 1} → statement M
 least-of-four-spec =
@@ -20,11 +18,9 @@ least-of-four-spec =
     (λ c κs. search needs)
     (λ c. search needs)
     (λ c κs. search needs)
-    (λ c κs. search needs)
     (λ c. search needs)
     (λ c κs. search needs)
     (λ c. search needs)
-    (λ c κs. search needs)
     (λ c κs. search needs)
     (λ c κs. search needs)
     returns)

@@ -18,6 +18,7 @@ use Rattle.tables.proofs.Nodes.{counted-few}
 use Rattle.tables.proofs.Edges.{into-here, into-none, lower-here, found}
 use Rattle.rules.specs.Fold.{states}
 use Rattle.tables.proofs.Settling.{enter-none, enter-some}
+use Rattle.states.proofs.Numbers.{start-so}
 use Rattle.estimate.proofs.Graphs.{none-fit, some-fit}
 use borrow.Author.Needs.{needs}
 use Rattle.estimate.proofs.graph.enter.Statement.{statement}
@@ -33,7 +34,7 @@ returns c = let a = c .before .before .before .before .before .before .before .b
     let entries = behind (a .joins) (entryOf (now (a .counts)) (now (a .rows))) in (
       enter-none states (a .to) (a .aside .0) (tableOf (now (a .work))) (a .limit) entries (initial (startOf (a .cache))) (cameFrom ns (a .to) 0) _
           none (fits-table (now (a .work)) 5184 (p .0)) (p .1)
-          (c .before .before .store .ensures ∙ ap (λ (F : Filled). set (tableOf (now (a .work))) (a .to * 64) (state 0 0 F whole)) (c .before .before .before .before .start-of .ensures)),
+          (c .before .before .store .ensures ∙ ap (λ (F : Filled). set (tableOf (now (a .work))) (a .to * 64) (state 0 0 F whole)) (start-so (a .cache) _ (p .6) (p .5) (c .before .before .before .before .start-of .ensures))),
       none-fit (a .limit) (a .to) (a .aside .0) (tableOf (now (a .work))) entries (cameFrom ns (a .to) 0) none,
     )
 

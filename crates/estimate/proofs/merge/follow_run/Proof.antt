@@ -7,6 +7,7 @@ use lib.ListN.{take, drop}
 use Rattle.rules.specs.declared.State.{State}
 use Rattle.words.specs.Tables.{tableOf}
 use Rattle.tables.proofs.Masks.{has-listed}
+use Rattle.states.proofs.Steps.{fills-so}
 use Rattle.estimate.specs.Following.{Workable}
 use Rattle.estimate.specs.Merging.{fills}
 use Rattle.estimate.proofs.Runs.{first-has, first-rising, first-room, run-alike, behind-run}
@@ -19,7 +20,7 @@ run-of-requires c κs = let b = c .before .before .before .before .before .befor
   b .pre .0 .1,
   omega (arith, b .pre .2),
   omega (arith, b .pre .2, b .pre .3, b .pre .4),
-  (ap (λ (s : State). s .mask) (sym e), ap (fills (a .ways) (a .x)) (sym e) ∙ sym (c .before .fills .ensures)),
+  (ap (λ (s : State). s .mask) (sym e), ap (fills (a .ways) (a .x)) (sym e) ∙ sym (c .before .fills .ensures ∙ fills-so (a .x) (b .pre .0 .1) (a .ways) (c .before .before .before .before .load .result))),
 )
 
 follow-requires : tie.Need-follow-requires

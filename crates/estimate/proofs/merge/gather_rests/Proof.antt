@@ -11,6 +11,7 @@ use Rattle.words.proofs.Tables.{fits-table}
 use Rattle.rules.specs.Table.{listing}
 use Rattle.tables.proofs.Scratch.{scratch-empty, scratch-more, scratch-rising, slot-reads, stretch-long}
 use Rattle.rules.proofs.Splitting.{units-added}
+use Rattle.states.proofs.Steps.{over-so}
 use Rattle.estimate.proofs.Following.{asideTo, aside-start, aside-next, aside-all, workable-at}
 use Rattle.estimate.proofs.StreamParts.{over, over-none, over-rising, over-next, over-room, over-all}
 use borrow.Author.Needs.{needs}
@@ -38,7 +39,7 @@ alone-of-requires c κs = let b = c .before .before .before .before .before in
     let a = b .before .before .args in
     let S = take (a .m) (drop (a .from) (tableOf (now (a .work)))) in
     let read = slot-reads listing _ _ _ _ (l .inv .2) (a .from) (a .m) (l .i) _ (omega arith) (p .3) (c .before .before .load .ensures) in
-    (p .0, rw read (workable-at (a .ways) (a .x) S (p .6) (l .i) .0), p .1, c .before .left-over .ensures)
+    (p .0, rw read (workable-at (a .ways) (a .x) S (p .6) (l .i) .0), p .1, over-so (a .x) (p .0 .0) (p .0 .1) _ _ _ (c .before .left-over .ensures))
 
 add-rest-requires : tie.Need-add-rest-requires Inv-loop μ-loop
 add-rest-requires c κs = let b = c .before .before .before .before .before .before in
@@ -66,7 +67,7 @@ loop-again c = let turn = c .before .before .before .before .before .before .bef
       rw (← over-next (a .ways) (a .x) S (l .i) (loaded .result) (omega (arith, long, turn .loop-test .taken)) read, ← alone .ensures)
           (scratch-more listing _ _ _ _ (l .inv .2) _ _ _ (added .ensures .0)),
       added .ensures .1,
-      aside-next (a .ways) (a .x) S _ (l .i) _ _ _ _ (omega (arith, long, turn .loop-test .taken)) read (l .inv .4) (c .before .before .before .before .before .before .left-over .ensures) (units-added _ _ _ (c .add .ensures)),
+      aside-next (a .ways) (a .x) S _ (l .i) _ _ _ _ (omega (arith, long, turn .loop-test .taken)) read (l .inv .4) (over-so (a .x) (p .0 .0) (p .0 .1) _ _ _ (c .before .before .before .before .before .before .left-over .ensures)) (units-added _ _ _ (c .add .ensures)),
     )
 
 returns : tie.Need-returns Inv-loop μ-loop

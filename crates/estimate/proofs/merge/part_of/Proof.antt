@@ -6,6 +6,7 @@ use Rattle.rules.specs.declared.State.{State}
 use Rattle.rules.specs.Contents.{shared}
 use Rattle.rules.proofs.Splitting.{split-part}
 use Rattle.tables.proofs.Masks.{without-there}
+use Rattle.states.proofs.Steps.{fuller-so, missed-so}
 use Rattle.estimate.specs.Merging.{Words}
 use Rattle.estimate.proofs.StreamParts.{keep-comes, risk-size, part-hits, part-fills, part-keeps, part-loses}
 use borrow.Author.Needs.{needs}
@@ -20,12 +21,11 @@ returns : tie.Need-returns
 returns c = let b = c .before in let a = b .args in
     (part-hits (a .ways) (a .x) (a .k) (a .s) (b .pre .3) (c .if1 .taken), known b)
 
-missed-requires : tie.Need-missed-requires
-missed-requires c κs = let p = c .before .before .before .before .pre in (p .0 .0, omega (arith, ap (λ (s : State). s .misses) (c .fuller .ensures), p .1 .0))
-
 returns-2 : tie.Need-returns-2
 returns-2 c = let b = c .before .before .before .before .before in let a = b .args in (
-  part-fills (a .ways) (a .x) (a .k) (a .s) (b .pre .3) _ (c .before .before .if2 .taken) _ _ (c .before .fuller .ensures) refl (c .missed .ensures),
+  part-fills (a .ways) (a .x) (a .k) (a .s) (b .pre .3) _ (c .before .before .if2 .taken) _ _
+      (fuller-so (a .x) (b .pre .0 .0) (b .pre .0 .1) _ (b .pre .2) (a .s) _ (c .before .fuller .ensures)) refl
+      (missed-so (a .x) (b .pre .0 .0) (c .before .fuller .result) _ (omega (arith, ap (λ (s : State). s .misses) (c .before .fuller .ensures), b .pre .1 .0)) _ _ (c .missed .ensures)),
   known b,
 )
 
@@ -37,7 +37,7 @@ kept-of-requires c κs = let b = c .before .before .before .before .before .befo
 returns-3 : tie.Need-returns-3
 unfolding shared
 returns-3 c = let b = c .before .before .before .before .before .before .before .before in let a = b .args in (
-  part-keeps (a .ways) (a .x) (a .k) (a .s) (b .pre .3) _ (b .pre .2) (b .pre .0 .1) (c .before .before .before .before .if3 .taken) _ _ refl (c .before .kept-of .ensures) (c .missed2 .ensures),
+  part-keeps (a .ways) (a .x) (a .k) (a .s) (b .pre .3) _ (b .pre .2) (b .pre .0 .1) (c .before .before .before .before .if3 .taken) _ _ refl (c .before .kept-of .ensures) (missed-so (a .x) (b .pre .0 .0) (a .s) _ (b .pre .1 .0) _ _ (c .missed2 .ensures)),
   known b,
 )
 
@@ -45,7 +45,7 @@ returns-4 : tie.Need-returns-4
 returns-4 c = let b = c .before .before .before .before .before .before .before in let a = b .args in let p = c .before .split in
     let low : a .k < 16 = omega (arith, c .before .before .before .before .before .before .if1 .left, c .before .before .before .before .if2 .left, c .before .before .before .if3 .left) in (
       part-loses (a .ways) (a .x) (a .k) (a .s) (b .pre .3) _ (b .pre .2) (b .pre .0 .1) low _ _
-          (without-there (a .s .mask) (a .k) low _ (c .before .before .without-place .ensures)) (split-part (p .result) (a .s .units) (a .ways) (p .ensures)) (c .missed3 .ensures),
+          (without-there (a .s .mask) (a .k) low _ (c .before .before .without-place .ensures)) (split-part (p .result) (a .s .units) (a .ways) (p .ensures)) (missed-so (a .x) (b .pre .0 .0) (a .s) _ (b .pre .1 .0) _ _ (c .missed3 .ensures)),
       known b,
     )
 
@@ -55,7 +55,7 @@ part-of-spec =
     (tie.spec
     returns
     (λ c κs. search needs)
-    missed-requires
+    (λ c κs. search needs)
     returns-2
     kept-of-requires
     (λ c κs. search needs)

@@ -8,6 +8,7 @@ use Rattle.rules.specs.Shape.{Every}
 use Rattle.rules.specs.Table.{stateAt}
 use Rattle.words.specs.Tables.{tableOf}
 use Rattle.words.proofs.Tables.{fits-table}
+use Rattle.states.proofs.Steps.{goes-so}
 use Rattle.estimate.specs.Merging.{InRun}
 use Rattle.estimate.proofs.Runs.{run-more}
 use borrow.Author.Needs.{needs}
@@ -34,7 +35,7 @@ loop-again c = let b = c .before .before .before .before .before .before in let 
   omega arith,
   omega arith,
   run-more (InRun (a .ways) (a .x) (a .mask) (a .filling)) (tableOf (now (a .work))) (a .from) (l .i) (c .before .before .load .result)
-      (omega (arith, fits-table (now (a .work)) (a .from + a .m) (omega arith), c .before .before .before .loop-test .taken)) (c .before .before .load .ensures) (c .before .goes-on .ensures (c .if1 .taken)) (l .inv .2),
+      (omega (arith, fits-table (now (a .work)) (a .from + a .m) (omega arith), c .before .before .before .loop-test .taken)) (c .before .before .load .ensures) (goes-so (a .x) (b .pre .0) _ (c .before .before .load .result) _ _ _ (c .before .goes-on .ensures) (c .if1 .taken)) (l .inv .2),
 )
 
 pub run-of-spec : {M : Type 1} → statement M

@@ -35,16 +35,16 @@ advance-requires c κs = let a = c .before .before .before .before .before .befo
     ready-wider (a .cache) (now (a .tracked)) (a .limit) (4096 - (length (now (a .accesses)) - l .i)) 4095 _ _ _ _ (omega arith) (l .inv .2)
 
 loop-again : tie.Need-loop-again Inv-loop μ-loop
-loop-again c = let a = c .before .before .before .before .before .before .before .before .before .before .args in
-    let l = c .before .before .before .before .before .before .loop in
-    let g = c .before .before .advance in
+loop-again c = let a = c .before .before .before .before .before .before .before .before .before .before .before .args in
+    let l = c .before .before .before .before .before .before .before .loop in
+    let g = c .before .before .before .advance in
     let t = now (a .tracked) in
     let next = 4096 - (length (now (a .accesses)) - (l .i + 1)) in (
       search needs,
       search needs,
-      ready-next (a .cache) t (a .limit) (4096 - (length (now (a .accesses)) - l .i)) next (a .at) _ _ _ _ (l .before) _ (l .work) (g .last .0) (omega (arith, c .before .before .before .before .before .before .before .before .before .before .pre .0)) (g .kept .0) (l .inv .2) (g .ensures),
+      ready-next (a .cache) t (a .limit) (4096 - (length (now (a .accesses)) - l .i)) next (a .at) _ _ _ _ (l .before) _ (l .work) (g .last .0) (omega (arith, c .before .before .before .before .before .before .before .before .before .before .before .pre .0)) (g .kept .0) (l .inv .2) (g .ensures),
       g .ensures .before ∙ l .inv .3,
-      rw (add-one (l .i), stands-work _ _ _ _ _ _ (g .ensures)) (ran-next states (a .cache .ways) (a .cache .sets) (a .limit) t (now (a .accesses)) (l .i) (l .before) _ _ _ _ (omega arith) refl (l .inv .4)),
+      rw (add-one (l .i), c .accessed .ensures, stands-work _ _ _ _ _ _ (g .ensures)) (ran-next states (a .cache .ways) (a .cache .sets) (a .limit) t (now (a .accesses)) (l .i) (l .before) _ _ _ _ (omega arith) refl (l .inv .4)),
     )
 
 returns : tie.Need-returns Inv-loop μ-loop
@@ -62,6 +62,7 @@ run-spec =
     (λ c. search needs)
     (λ c. search needs)
     advance-requires
+    (λ c κs. search needs)
     (λ c. search needs)
     (λ c. search needs)
     loop-again

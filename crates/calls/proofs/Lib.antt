@@ -1,0 +1,2 @@
+-- What is left where a call is refused and where it is not
+pub mod Leaving

@@ -1,0 +1,2 @@
+-- What a call leaves
+pub mod Call

@@ -1,0 +1,2 @@
+-- The largest miss count
+pub mod MostMisses

@@ -1,0 +1,2 @@
+-- What is given to C.
+pub mod Answers

@@ -1,0 +1,6 @@
+-- The filled numbers, as words add
+pub mod Filling
+-- What an access makes of a state
+pub mod Step
+-- How good a partner is
+pub mod Partners
