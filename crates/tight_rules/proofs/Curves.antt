@@ -31,13 +31,13 @@ use Rattle.promises.proofs.Weights.{oneWhere, overIs, over-rises, one-most, wor
 use Rattle.tight_rules.specs.Asked.{Asked, graphOf}
 use Rattle.tight_rules.specs.Rows.{Rows, meaning}
 use Rattle.tight_rules.specs.Graph.{finished, curve}
-use Rattle.tight_rules.specs.Refusals.{reasons, verdict}
+use Rattle.tight_rules.specs.Refusals.{beforeRooms, reasons, verdict}
 use Rattle.tight_rules.proofs.Moves.{Fit, worthOfAll, Good}
 use Rattle.tight_rules.proofs.Graphs.{finished-fit}
 
 -- an accepted input's graph is one that document 01's call accepts, with the limit and the rooms that `graphOf` gives it
 pub accepted : (a : Asked) → verdictSays (verdict a) ≡ 0 → Checked (graphOf a)
-unfolding verdict reasons Rules.reasons
+unfolding verdict reasons beforeRooms Rules.reasons
 accepted a h =
     let (w, (n, (v, (k, (t, (b, (g, _))))))) = none-applies (reasons a) h in
     facts (graphOf a) (w, (n, (v, (refl, (t, (b, (g, (refl, tt))))))))

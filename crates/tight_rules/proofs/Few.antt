@@ -34,7 +34,7 @@ use Rattle.tight_rules.proofs.Parts.{Part, lowered-part, lands-part, le
 -- ---- masks by number
 
 -- what is part of C is no larger than C
-sub-le : (k D C : ℕ) → D < 2 ^ k → C < 2 ^ k → Sub D C → D ≤ C
+pub sub-le : (k D C : ℕ) → D < 2 ^ k → C < 2 ^ k → Sub D C → D ≤ C
 sub-le zero D C hd hc s = omega arith
 sub-le (suc k) D C hd hc s =
     let r : D / 2 ≤ C / 2 = sub-le k (D / 2) (C / 2) (omega arith) (omega arith) (λ i h. sym (bit-rest C i) ∙ s (suc i) (bit-rest D i ∙ h)) in
@@ -67,7 +67,7 @@ lowered-stays (suc k) y C e i l h = go (bit C k && not (isAt y k)) refl e (lower
         ⊎-elim (λ s. rw s (back (bit C k) (isAt y k) (rw (← s) h) q)) (λ s. ih e i s h) (eq-or-lt-of-le (le-of-suc-le-suc l))
 
 -- contents that are emptied go at least one place down
-lands-below : (n : ℕ) (y : Place) (gone : List ℕ) (C : ℕ) → 0 < n → among gone C ≡ true → Part y (lands n y gone C) (lowered places y C)
+pub lands-below : (n : ℕ) (y : Place) (gone : List ℕ) (C : ℕ) → 0 < n → among gone C ≡ true → Part y (lands n y gone C) (lowered places y C)
 unfolding lands
 lands-below zero y gone C l h = absurd (omega arith)
 lands-below (suc n) y gone C l h = rw h (lands-part n y gone (lowered places y C))
@@ -81,7 +81,7 @@ move-every P h T all =
 
 -- ---- the units of contents
 
-units-most : (C : ℕ) (T : List State) → unitsIn C T ≤ total T
+pub units-most : (C : ℕ) (T : List State) → unitsIn C T ≤ total T
 unfolding unitsIn totalOf
 units-most C [] = omega arith
 units-most C (s ∷ T) = omega (arith, part-most (eqb (s .mask) C) (unitsOf s), units-most C T)

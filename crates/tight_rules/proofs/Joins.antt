@@ -25,8 +25,8 @@ use Rattle.rules.proofs.Fold.{loose-meet, loose-at}
 use Rattle.promises.proofs.Weaker.{Weaker, weaker-weighs, meet-left, meet-right}
 use Rattle.tight_rules.specs.Rows.{Rows}
 use Rattle.tight_rules.specs.Reduction.{reduced}
-use Rattle.tight_rules.specs.Join.{Two, inTurn, spend, pairUp, pairing, join}
-use Rattle.tight_rules.proofs.Moves.{Fit, worthOfAll, Good, Sure, sure-onward, sure-reduced, sure-evened}
+use Rattle.tight_rules.specs.Join.{Two, inTurn, spend, pairUp, pairing, filledOf, join}
+use Rattle.tight_rules.proofs.Moves.{Fit, worthOfAll, Good, Sure, sure-reduced, filled-of-most, filled-up-fit}
 
 -- ---- units that are used
 
@@ -236,15 +236,16 @@ module _ (N Z : ℕ) (ts : List ℕ) (M : ℕ) (K k a : ℕ) (q r : Rows) (left 
           ),
         )
 
-    settled : Sure N Z ts M f B good 0 mid (join K k a q r)
+    -- before the filled numbers
+    reduces : Sure N Z ts M f B good 0 mid (record { kept = reduced K k untracked (mid .kept); lost = mid .lost })
+    reduces = sure-reduced N Z ts M f B good 0 K k untracked (mid .kept) (mid .lost) mid-fit
+
+    settled : Fit N Z ts M (join K k a q r) × (worthOfAll f B (record { kept = reduced K k untracked (mid .kept); lost = mid .lost }) ≤ worthOfAll f B (join K k a q r))
     unfolding join
-    settled =
-        let b = sure-reduced N Z ts M f B good 0 K k untracked (mid .kept) (mid .lost) mid-fit in
-        sure-onward N Z ts M f B good 0 mid (record { kept = reduced K k untracked (mid .kept); lost = mid .lost }) _ b
-        (sure-evened N Z ts M f B good 0 (reduced K k untracked (mid .kept)) (mid .lost) (b .fit))
+    settled = filled-up-fit N Z ts M f B good 0 (filledOf S T) (filled-of-most N Z ts M S T (left .shaped) (right .shaped)) (reduced K k untracked (mid .kept)) (mid .lost) (reduces .fit)
 
     pub join-fit : Fit N Z ts M (join K k a q r)
-    join-fit = settled .fit
+    join-fit = settled .0
 
     pub join-low : (worthOfAll f B q ≤ worthOfAll f B (join K k a q r)) × (worthOfAll f B r ≤ worthOfAll f B (join K k a q r))
-    join-low = (le-trans (mid-low .0) (settled .low), le-trans (mid-low .1) (settled .low))
+    join-low = (le-trans (mid-low .0) (le-trans (reduces .low) (settled .1)), le-trans (mid-low .1) (le-trans (reduces .low) (settled .1)))

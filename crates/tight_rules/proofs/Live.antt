@@ -31,7 +31,7 @@ use Rattle.tight_rules.proofs.Runs.{before, good-before, deaf-before}
 -- ---- one pass from the last node to the first
 
 -- the list for the last m nodes has what is live at the start of each
-lives-at : (i : Input) (m k : ℕ) → k < m → m ≤ nodes i → getD (livesOf i m) k 0 ≡ liveBefore i (nodes i - m + k)
+pub lives-at : (i : Input) (m k : ℕ) → k < m → m ≤ nodes i → getD (livesOf i m) k 0 ≡ liveBefore i (nodes i - m + k)
 unfolding livesOf liveBefore liveAfter
 lives-at i zero k l h = absurd (not-suc-le-zero l)
 lives-at i (suc m) zero l h = rw (here, last) refl

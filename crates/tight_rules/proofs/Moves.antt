@@ -8,7 +8,7 @@ use mathlib.Core.List.{List, [], _∷_, map}
 use Prim.Native.Nat.{ℕ, suc, _+_, _-_, _*_, _≤_, _<_, _^_, max}
 use native.Mathlib.Nat.{le-refl, le-trans, le-of-eq, le-max-left, max-le, min-le-left, mul-le-mul-left}
 use native.Mathlib.Omega.{arith}
-use lib.Dec.{eqb, ltb}
+use lib.Dec.{eqb, ltb, leb}
 use lib.ListN.{length}
 use borrow.Author.Tests.{eqb-true}
 use Rattle.basics.specs.Sums.{sumOver}
@@ -35,7 +35,8 @@ use Rattle.rules.proofs.Listings.{shaped-plus}
 use Rattle.rules.proofs.Table.{states-lawful, Weight, weightOf, worthOf, worth, worth-add, total-add, every-add}
 use Rattle.promises.proofs.Value.{Rises}
 use Rattle.promises.proofs.Weaker.{Weaker, weaker-low, changed-high}
-use Rattle.tight_rules.specs.Rows.{Rows, move, moved, narrow, narrowed, filledFor, even, evened}
+use Rattle.tight_rules.specs.Rows.{Rows, move, moved, narrow, narrowed, filledFor, evenBy, even, evened}
+use Rattle.tight_rules.specs.Join.{filledTo, filledOf, filledUp}
 use Rattle.tight_rules.specs.Reduction.{relabel, reduced}
 use Rattle.tight_rules.specs.Ends.{upTo, cut, raise, raised, highest, lowest, ends}
 use Rattle.tight_rules.proofs.Dead.{Deaf, room-part}
@@ -99,20 +100,37 @@ module _ (N Z : ℕ) (ts : List ℕ) (M : ℕ) where
       go true l = rw (fullest-at (s .filled) (filledFor m T) j) (max-le (h .0 .0 .small j .1) l)
       go false l = l
 
-  pub even-weakens : (T : List State) → Every (Shaped N Z ts M) T → Weakens (even T)
-  even-weakens T all =
+  -- at least the numbers of G, which are no more than the ways
+  pub even-by-weakens : (G : ℕ → Filled) → ((m j : ℕ) → filledAt (G m) j ≤ N) → Weakens (evenBy G)
+  even-by-weakens G most =
       record {
-        weaker = λ s. record { fewer = λ i h. h; later = le-refl (s .misses); fuller = fewer-left (s .filled) (filledFor (s .misses) T) };
+        weaker = λ s. record { fewer = λ i h. h; later = le-refl (s .misses); fuller = fewer-left (s .filled) (G (s .misses)) };
         shaped = λ s h. record {
           masked = h .masked;
           few = h .few;
           small = λ j. (
-            le-trans (h .small j .0) (fewer-left (s .filled) (filledFor (s .misses) T) j),
-            rw (fullest-at (s .filled) (filledFor (s .misses) T) j) (max-le (h .small j .1) (filled-for-most (s .misses) T all j)),
+            le-trans (h .small j .0) (fewer-left (s .filled) (G (s .misses)) j),
+            rw (fullest-at (s .filled) (G (s .misses)) j) (max-le (h .small j .1) (most (s .misses) j)),
           );
         };
         units = λ s. refl;
       }
+
+  even-weakens : (T : List State) → Every (Shaped N Z ts M) T → Weakens (even T)
+  even-weakens T all = even-by-weakens (λ m. filledFor m T) (λ m j. filled-for-most m T all j)
+
+  filled-to-most : (m : ℕ) (T : List State) → Every (Shaped N Z ts M) T → (j : ℕ) → filledAt (filledTo m T) j ≤ N
+  unfolding filledTo
+  filled-to-most m [] h j = rw (none-at j) (omega arith)
+  filled-to-most m (s ∷ T) h j = go (leb (s .misses) m) (filled-to-most m T (h .1) j)
+    where
+      go : (b : Bool) → filledAt (filledTo m T) j ≤ N → filledAt (cond b (fullest (s .filled) (filledTo m T)) (filledTo m T)) j ≤ N
+      go true l = rw (fullest-at (s .filled) (filledTo m T) j) (max-le (h .0 .0 .small j .1) l)
+      go false l = l
+
+  -- no more than the ways are filled in two tables
+  pub filled-of-most : (S T : List State) → Every (Shaped N Z ts M) S → Every (Shaped N Z ts M) T → (m j : ℕ) → filledAt (filledOf S T m) j ≤ N
+  filled-of-most S T a b m j = rw (fullest-at (filledTo m S) (filledTo m T) j) (max-le (filled-to-most m S a j) (filled-to-most m T b j))
 
   module _ (h : State → State) (w : Weakens h) where
     total-map : (T : List State) → total (map h T) ≡ total T
@@ -258,6 +276,19 @@ module _ (N Z : ℕ) (ts : List ℕ) (M : ℕ) (f : Weight) (B : ℕ) (good : Go
   pub sure-evened : (w : Work) (l : ℕ) → Fit N Z ts M (rows w l) → Sure (rows w l) (rows (evened w) l)
   unfolding evened
   sure-evened w l fit = sure-moved (even (w .table)) (even-weakens N Z ts M (w .table) (fit .shaped)) w l fit
+
+  -- fuller rows are in shape and worth no less
+  pub filled-up-fit : (G : ℕ → Filled) → ((m j : ℕ) → filledAt (G m) j ≤ N) → (w : Work) (l : ℕ) → Fit N Z ts M (rows w l)
+      → Fit N Z ts M (rows (filledUp G w) l) × (all (rows w l) ≤ all (rows (filledUp G w) l))
+  unfolding filledUp
+  filled-up-fit G most w l fit =
+      let k = even-by-weakens N Z ts M G most in (
+        record {
+          shaped = move-shaped N Z ts M (evenBy G) k (w .table) (fit .shaped);
+          full = ap (_+ l) (move-total N Z ts M (evenBy G) k (w .table) (fits w l fit)) ∙ fit .full;
+        },
+        omega (arith, move-low N Z ts M (evenBy G) k f (good .rises) (w .table) (fit .shaped) (fits w l fit)),
+      )
 
   -- ---- row ends
 

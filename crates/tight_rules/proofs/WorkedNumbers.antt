@@ -7,9 +7,8 @@ use lib.ListN.{length, set}
 use Rattle.rules.specs.Units.{whole, more}
 use Rattle.rules.specs.Contents.{places, find, bit, with, without, shared, heldBelow, held, size, maskOf, ofSet, lastAfter, targetOf}
 use Rattle.rules.specs.Filling.{bytesOf, wordFrom, numbersOf, filledFrom, filledAt, withFilled, ofSets, fillOne, fullest, atStart}
-use Rattle.rules.specs.declared.Start.{Start}
 use Rattle.rules.specs.declared.Start.the-variants.{Cold as cold}
-use Rattle.rules.specs.Input.{offset, runOf, predecessors}
+use Rattle.rules.specs.Input.{cache, offset, runOf, predecessors}
 use Rattle.rules.specs.Ordered.{insert, insertAll}
 use Rattle.rules.specs.AnyTable.{add, total, access, paired}
 use Rattle.rules.specs.Table.{order}
@@ -18,12 +17,12 @@ use Rattle.rules.specs.Lasts.{agreeAll, lastBefore, nodeLast, lastsTo}
 use Rattle.rules.specs.Longest.{mostOf, longestTo, longest}
 use Rattle.rules.specs.Counts.{largest, unitsAt, spread as spreadOf, above}
 use Rattle.rules.specs.Questions.{spread, least, smallestBudget}
-use Rattle.tight_rules.specs.Asked.{Asked}
+use Rattle.tight_rules.specs.Asked.{Asked, askedIn}
 use Rattle.tight_rules.specs.Rows.{meaning, contents, unitsIn, move, moved, narrowed, filledFor, evened}
 use Rattle.tight_rules.specs.Reduction.{lowered, lands, emptied, level, reduced}
 use Rattle.tight_rules.specs.Ends.{cut, raised, below, highest, lowest, ends}
 use Rattle.tight_rules.specs.Run.{living, stepped, advance, run}
-use Rattle.tight_rules.specs.Join.{spend, pairUp, pairing, join}
+use Rattle.tight_rules.specs.Join.{spend, pairUp, pairing, filledTo, filledUp, join}
 use Rattle.tight_rules.specs.Live.{afterNode, livesOf, liveAfter, liveBefore}
 use Rattle.tight_rules.specs.Graph.{joinAll, enter, node, worked, finished, curve}
 
@@ -34,10 +33,10 @@ pub record Case : Type 0 where
   pub contents : ℕ
   pub aside : ℕ
 
--- one set of N ways of the first revision, started cold; the blocks a, b and c tracked as bits 0, 1 and 2
+-- one set of N ways of the first revision, started cold; the blocks a, b and c tracked as bits 0, 1 and 2; rooms that are large enough for all of these
 abbrev asks : ℕ → ℕ → ℕ → List ℕ → List ℕ → List ℕ → Asked
 asks N K W ns bs es =
-    record { sets = 1; ways = N; revision = 1; start = cold; contents = K; cells = W; tracked = 10 ∷ 11 ∷ 12 ∷ []; lengths = ns; accesses = bs; edges = es }
+    askedIn (cache 1 N 1 cold) K W (10 ∷ 11 ∷ 12 ∷ []) ns bs es 100 1000000
 
 abbrev comes : Asked → List ℕ → ℕ → ℕ → Case
 comes a row n aside = record { asked = a; row = row; contents = n; aside = aside }
@@ -85,5 +84,5 @@ cases =
     ∷ []
 
 pub each-comes-out : map workedOut cases ≡ cases
-unfolding workedOut cases more places find bit with without shared heldBelow held size maskOf ofSet lastAfter targetOf bytesOf wordFrom numbersOf filledFrom filledAt withFilled ofSets fillOne fullest atRisk offset runOf predecessors insert insertAll order add total miss successors leftOver access paired atStart agreeAll lastBefore nodeLast lastsTo flatMap mostOf longestTo longest largest unitsAt spreadOf above least smallestBudget meaning contents unitsIn move moved narrowed filledFor evened lowered lands emptied level reduced cut raised below highest lowest ends living stepped advance run spend pairUp pairing join afterNode livesOf liveAfter liveBefore joinAll enter node worked finished curve
+unfolding workedOut cases more places find bit with without shared heldBelow held size maskOf ofSet lastAfter targetOf bytesOf wordFrom numbersOf filledFrom filledAt withFilled ofSets fillOne fullest atRisk offset runOf predecessors insert insertAll order add total miss successors leftOver access paired atStart agreeAll lastBefore nodeLast lastsTo flatMap mostOf longestTo longest largest unitsAt spreadOf above least smallestBudget meaning contents unitsIn move moved narrowed filledFor evened lowered lands emptied level reduced cut raised below highest lowest ends living stepped advance run spend pairUp pairing filledTo filledUp join afterNode livesOf liveAfter liveBefore joinAll enter node worked finished curve
 each-comes-out = refl

@@ -2,16 +2,18 @@
 use mathlib.Core.Bool.{cond}
 use mathlib.Core.List.{List, [], _∷_, _++_, map, flatMap}
 use Prim.Native.Nat.{ℕ, zero, suc, _+_, _-_, min}
-use lib.Dec.{eqb}
+use lib.Dec.{eqb, leb}
 use lib.ListN.{set}
 use Rattle.basics.specs.Sums.{sumOver}
 use Rattle.rules.specs.declared.Place.the-variants.{Untracked as untracked}
 use Rattle.rules.specs.Contents.{places, shared, size}
 use Rattle.rules.specs.declared.State.{State}
-use Rattle.rules.specs.Table.{unitsOf, total, stateAt}
+use Rattle.rules.specs.declared.Filled.{Filled}
+use Rattle.rules.specs.Filling.{fullest}
+use Rattle.rules.specs.Table.{unitsOf, total, stateAt, noState, Work}
 use Rattle.rules.specs.AnyTable.{Match}
 use Rattle.rules.specs.Join.{less, paired}
-use Rattle.tight_rules.specs.Rows.{Rows, contents, evened}
+use Rattle.tight_rules.specs.Rows.{Rows, contents, move, evenBy}
 use Rattle.tight_rules.specs.Reduction.{reduced}
 
 -- ---- in which order
@@ -56,16 +58,31 @@ pairUp (c ∷ cs) S T =
 unfoldable pub pairing : List State → List State → List Match
 pairing S T = pairUp (inTurn places S T) S T
 
+-- ---- the filled numbers: those of a miss count again, so that a row has one cell for each
+
+-- the larger number of each set over the states with at most m misses
+unfoldable pub filledTo : ℕ → List State → Filled
+filledTo m [] = noState .filled
+filledTo m (s ∷ T) = cond (leb (s .misses) m) (fullest (s .filled) (filledTo m T)) (filledTo m T)
+
+-- and over those of two tables: no pair that has m misses has more
+abbrev pub filledOf : List State → List State → ℕ → Filled
+filledOf S T m = fullest (filledTo m S) (filledTo m T)
+
+-- all states with at least these numbers; nothing is set aside
+unfoldable pub filledUp : (ℕ → Filled) → Work → Work
+filledUp G w = record { table = move (evenBy G) (w .table); aside = w .aside }
+
 -- ---- the join
 
 -- a pair gives the shared blocks, the larger misses and the larger filled numbers. What is lost on either side is lost: the lost units of one, and those of its units that
--- are paired with lost units of the other. Then the contents of k places are reduced to K; a is set aside so far
+-- are paired with lost units of the other. Then the contents of k places are reduced to K; a is set aside so far, and only the reduction sets more aside
 unfoldable pub join : ℕ → ℕ → ℕ → Rows → Rows → Rows
 join K k a q r =
     let S = q .kept .table in
     let T = r .kept .table in
     let P = pairing S T in
     record {
-      kept = evened (reduced K k untracked (record { table = paired P S T; aside = a }));
+      kept = filledUp (filledOf S T) (reduced K k untracked (record { table = paired P S T; aside = a }));
       lost = q .lost + (total S - sumOver (λ p. p .units) P);
     }

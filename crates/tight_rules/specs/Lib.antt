@@ -9,5 +9,6 @@ pub mod Run
 pub mod Join
 pub mod Live
 pub mod Graph
--- When the work says no
+-- How much room it takes, and when the work says no
+pub mod Rooms
 pub mod Refusals

@@ -67,9 +67,13 @@ unfoldable pub filledFor : ℕ → List State → Filled
 filledFor m [] = noState .filled
 filledFor m (s ∷ T) = cond (eqb (s .misses) m) (fullest (s .filled) (filledFor m T)) (filledFor m T)
 
--- s with them
+-- s with at least the numbers that G has for its miss count
+abbrev pub evenBy : (ℕ → Filled) → State → State
+evenBy G s = state (s .mask) (s .misses) (fullest (s .filled) (G (s .misses))) (unitsOf s)
+
+-- s with those of its table
 abbrev pub even : List State → State → State
-even T s = state (s .mask) (s .misses) (fullest (s .filled) (filledFor (s .misses) T)) (unitsOf s)
+even T s = evenBy (λ m. filledFor m T) s
 
 -- all states with the same number of misses have the same filled numbers, so that a row has one cell for each miss count
 unfoldable pub evened : Work → Work

@@ -1,0 +1,2 @@
+-- What is live at the start of each node
+pub mod Starts

@@ -1,0 +1,2 @@
+-- The row, and what is answered about it
+pub mod Row

@@ -1,0 +1,6 @@
+-- The tables that are kept
+pub mod Kept
+-- How many words there are
+pub mod Sizes
+-- The verdict
+pub mod Judging
