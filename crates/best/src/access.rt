@@ -8,6 +8,7 @@ use rules::Target;
 use rules::Units;
 use tables::has_block;
 use tables::has_place;
+use tables::next_place;
 use tables::size_of;
 use tables::with_block;
 use tables::without_place;
@@ -107,10 +108,10 @@ pub(crate) fn lose_each(
     ensures { λ r. ⌜ Added (map (λ e. missedOf x s (without (s .mask) e) (part .0)) (held risk)) n r (tableOf (now (words .entry))) (tableOf (now (words .exit))) ⌝ }
 {
     let mut m = n;
-    let mut at: usize = 0;
+    let mut at = next_place(risk, 0);
     while at < 16 {
         m = lose_one(words, m, s, x, risk, part, at);
-        at += 1;
+        at = next_place(risk, at + 1);
     }
     m
 }

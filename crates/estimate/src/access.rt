@@ -12,6 +12,7 @@ use states::step::missed;
 use states::step::rest_of;
 use tables::has_block;
 use tables::has_place;
+use tables::next_place;
 use tables::size_of;
 use tables::without_place;
 ghost use mathlib.Core.Path.{_≡_};
@@ -61,10 +62,10 @@ pub(crate) fn lose_each(
     ensures { λ r. ⌜ Added (map (λ e. missedFrom x s (without (s .mask) e) (part .0)) (held risk)) n r (tableOf (now (words .entry))) (tableOf (now (words .exit))) ⌝ }
 {
     let mut m = n;
-    let mut at: usize = 0;
+    let mut at = next_place(risk, 0);
     while at < 16 {
         m = lose_one(words, m, s, x, risk, part, at);
-        at += 1;
+        at = next_place(risk, at + 1);
     }
     m
 }

@@ -2,8 +2,8 @@
 -- state.
 use mathlib.Core.Path.{_≡_, refl, sym, ap, _∙_}
 use mathlib.Core.Bool.{Bool, true, false, cond}
-use mathlib.Core.List.{List, [], _∷_, _++_, map, flatMap, map-append}
-use Prim.Native.Nat.{ℕ, zero, suc, _+_, _*_, _/_, _≤_, _<_, suc-le-suc}
+use mathlib.Core.List.{List, [], _∷_, _++_, map, flatMap, map-append, append-nil}
+use Prim.Native.Nat.{ℕ, zero, suc, _+_, _-_, _*_, _/_, _≤_, _<_, suc-le-suc}
 use native.Mathlib.Nat.{le-trans, le-of-eq, lt-of-le-of-lt, mul-le-mul, div-le-self, min-le-left}
 use native.Mathlib.Numerals.{add-one}
 use native.Mathlib.Omega.{arith}
@@ -21,7 +21,7 @@ use Rattle.rules.proofs.Lists.{flat-snoc}
 use Rattle.rules.proofs.Ordered.{in-order-rises, rises-in-order}
 use Rattle.rules.proofs.Listings.{Lawful, rising-add, length-present, length-add, add-append}
 use Rattle.tables.specs.Placing.{Added}
-use Rattle.tables.specs.Following.{lostAt}
+use Rattle.tables.specs.Following.{lostAt, firstHeld, nextHeld}
 
 -- the other ways' share of the units fits
 pub shares-fit : (d q u N : ℕ) → d ≤ 16 → q ≡ u / N → u ≤ whole → Fits w64 (d * q)
@@ -64,6 +64,19 @@ module _ {A : Type 0} (states : Listing A) where
         go : (b : Bool) → map lose (cond b (k ∷ []) []) ≡ cond b (lose k ∷ []) []
         go true = refl
         go false = refl
+
+    -- nothing is lost between a place and the next one that is held
+    pub lost-skips : (k : ℕ) → lostBelow (nextHeld E k) ≡ lostBelow k
+    unfolding firstHeld lostAt
+    lost-skips k = first (16 - k) k
+      where
+        first : (n k : ℕ) → lostBelow (firstHeld E n k) ≡ lostBelow k
+        first zero k = refl
+        first (suc n) k = go (bit E k) refl (first n (suc k))
+          where
+            go : (b : Bool) → bit E k ≡ b → lostBelow (firstHeld E n (suc k)) ≡ lostBelow (suc k) → lostBelow (cond b k (firstHeld E n (suc k))) ≡ lostBelow k
+            go true e h = refl
+            go false e h = h ∙ ap lostBelow (sym (add-one k)) ∙ lost-next k ∙ rw e (append-nil (lostBelow k))
 
     lost-few : (k : ℕ) → length (lostBelow k) ≤ k
     unfolding heldBelow

@@ -1,5 +1,7 @@
 -- Masks, and looking up a block
 pub mod Masks
+-- The next place whose block is held
+pub mod Places
 -- The edges into a node
 pub mod Edges
 -- States put where they belong

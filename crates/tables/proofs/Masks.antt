@@ -2,16 +2,16 @@
 -- from its end.
 use mathlib.Core.Path.{_≡_, refl, sym, ap, ap₂, _∙_}
 use mathlib.Core.Bool.{Bool, true, false, cond, _&&_}
-use mathlib.Core.List.{List}
+use mathlib.Core.List.{List, [], _∷_}
 use Prim.Native.Nat.{ℕ, zero, suc, _+_, _-_, _*_, _/_, _%_, _^_, _≤_, _<_}
-use native.Mathlib.Nat.{one-mul, zero-add, add-zero, le-refl, lt-of-lt-of-le}
+use native.Mathlib.Nat.{one-mul, zero-add, add-zero, le-refl, lt-of-lt-of-le, mod-one, pow-succ'}
 use native.Mathlib.Numerals.{add-one}
 use native.Mathlib.Omega.{arith}
 use lib.Bits.{bitAnd, and-mask}
 use lib.Count.{ones, ones-step, ones-le}
 use lib.Dec.{lit<, eqb, leb}
 use lib.ListN.{length, getD, drop, length-drop, drop-of-length-le}
-use lib.Pow.{shl-exact, field, mod-mod-pow, pow-mono}
+use lib.Pow.{shl-exact, field, mod-mod-pow, pow-mono, pow-pos}
 use lib.Seq.{drop-cons}
 use borrow.Author.Tests.{eq-eqb, ne-eqb, leb-true, le-leb}
 use Rattle.basics.proofs.Bools.{and-left, and-right}
@@ -124,6 +124,12 @@ module _ (Z : ℕ) (ts : List ℕ) (j : ℕ) where
     where
       short : length (drop i ts) ≤ 16
       short = omega (arith, length-drop i ts)
+
+-- where there is one set only, all tracked blocks belong to it
+pub all-mates : (ts : List ℕ) → 2 ^ length ts - 1 ≡ ofSet 1 ts 0
+unfolding ofSet maskOf
+all-mates [] = refl
+all-mates (t ∷ ts) = rw (mod-one t, ← all-mates ts) (omega (arith, pow-pos (length ts), pow-succ' 2 (length ts)))
 
 -- ---- what an access is after
 

@@ -7,7 +7,7 @@ use rules::Target;
 use rules::Units;
 ghost use mathlib.Core.Path.{_≡_};
 ghost use mathlib.Core.Bool.{true, cond, _&&_};
-ghost use Prim.Native.Nat.{_≤_, _%_, min};
+ghost use Prim.Native.Nat.{_≤_, _<_, _%_, min};
 ghost use lib.Dec.{eqb, leb};
 ghost use lib.ListN.{length};
 ghost use Rattle.rules.specs.declared.Place.the-variants.{At};
@@ -15,6 +15,7 @@ ghost use Rattle.rules.specs.Contents.{among, bit, find, has, isLast, size, wit
 ghost use Rattle.rules.specs.Refusals.{setCounts};
 ghost use Rattle.tables.specs.Aim.{inWord, aimedAt};
 ghost use Rattle.tables.specs.Edges.{nextEdge};
+ghost use Rattle.tables.specs.Following.{nextHeld};
 
 // Whether the block at place `at` is held; a mask has 64 places.
 pub fn has_place(mask: u64, at: usize) -> bool
@@ -35,6 +36,16 @@ pub fn without_place(mask: u64, at: usize) -> u64
     ensures { λ r. ⌜ r ≡ without mask (at % 64) ⌝ }
 {
     mask ^ (1 << (at % 64))
+}
+
+// The next place from `at` on whose block is held, of sixteen: 16 where there is none.
+pub fn next_place(mask: u64, at: usize) -> usize
+    ensures { λ r. ⌜ r ≡ nextHeld mask at ⌝ }
+{
+    if 16 <= at {
+        return at;
+    }
+    at + u64::trailing_zeros((mask | 65536) >> at) as usize
 }
 
 // How many blocks are held.
@@ -89,11 +100,14 @@ fn in_set(block: u32, sets: u32, set: u32) -> u64
     0
 }
 
-// The tracked blocks of set `set` of `sets`, from the last one on.
+// The tracked blocks of set `set` of `sets`, from the last one on: all, where there is one set only.
 fn mates_of(tracked: &[u32], sets: u32, set: u32) -> u64
-    requires { ⌜ (length (now tracked) ≤ 16) × (among setCounts sets ≡ true) ⌝ }
+    requires { ⌜ (length (now tracked) ≤ 16) × (among setCounts sets ≡ true) × (set < sets) ⌝ }
     ensures { λ r. ⌜ r ≡ ofSet sets (now (tracked .entry)) set ⌝ }
 {
+    if sets == 1 {
+        return (1 << tracked.len()) - 1;
+    }
     let mut mask: u64 = 0;
     let mut i: usize = tracked.len();
     while 0 < i {

@@ -1,8 +1,9 @@
 -- `aim` looks the block up, and finds the other tracked blocks of its set.
 use mathlib.Core.Path.{refl}
+use native.Mathlib.Nat.{mod-lt}
 use denote.Ref.{now}
 use Rattle.rules.proofs.Refusals.{counts-some}
-use Rattle.tables.proofs.Masks.{few, known, aimed-at, aimed-none}
+use Rattle.tables.proofs.Masks.{low-bits, few, known, aimed-at, aimed-none}
 use borrow.Author.Needs.{needs}
 use Rattle.tables.proofs.aim.Statement.{statement}
 use Rattle.tables.proofs.aim.Tie as tie
@@ -17,7 +18,8 @@ mates-of-requires c κs =
     let a = c .before .before .before .before .before .args in
     let r = c .before .before .before .in-range .ensures in
     let yes = c .before .before .if1 .taken in
-    (few (a .sets) (now (a .tracked)) _ r yes, known (a .sets) (now (a .tracked)) _ r yes)
+    let count = known (a .sets) (now (a .tracked)) _ r yes in
+    (few (a .sets) (now (a .tracked)) _ r yes, count, rw (low-bits (a .sets) (a .block) count) (mod-lt (a .block) (counts-some (a .sets) count)))
 
 returns : tie.Need-returns
 returns c =
