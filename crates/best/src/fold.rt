@@ -3,6 +3,7 @@ use crate::meeting::meet;
 use crate::memory::load;
 use crate::memory::store;
 use crate::placing::add;
+use folding::is_above_limit;
 use rules::BestState;
 use rules::Pair;
 use tables::size_of;
@@ -180,7 +181,7 @@ pub(crate) fn fold_down(words: &mut [u64], n: usize, limit: usize) -> usize
     ensures { λ r. ⌜ Stands (folded limit (workOf (take n (tableOf (now (words .entry)))))) r (tableOf (now (words .exit))) ⌝ }
 {
     let mut left = n;
-    while limit < left {
+    while is_above_limit(left, limit) {
         left = fold_once(words, left);
     }
     left

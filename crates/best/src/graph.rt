@@ -5,6 +5,7 @@ use crate::run::join_to;
 use crate::run::run;
 use crate::slots::count;
 use crate::slots::seal;
+use nodes::after_edge;
 use rules::BestState;
 use rules::Cache;
 use rules::Hits;
@@ -70,7 +71,8 @@ pub(crate) fn enter(work: &mut [u64], to: usize, edges: &[u32], limit: usize) ->
     let from = edges[e] as usize * 64;
     let n = count(work, from);
     copy(work, from, to * 64, n);
-    join_others(work, to, n, edges, e + 2, limit)
+    let others = after_edge(e, edges.len());
+    join_others(work, to, n, edges, others, limit)
 }
 
 // Node `j`, whose run is `accesses`, after the nodes before it.

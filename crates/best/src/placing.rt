@@ -1,9 +1,9 @@
 // States put into an ordered table, each where it belongs.
 use crate::memory::load;
 use crate::memory::store;
+use orders::best_before;
+use orders::open_flag;
 use rules::BestState;
-use rules::best_before;
-use rules::open_flag;
 ghost use mathlib.Core.Path.{_≡_};
 ghost use mathlib.Core.Bool.{true, _&&_};
 ghost use mathlib.Core.List.{[], _∷_, _++_};

@@ -1,7 +1,7 @@
 // Whether the states in some words are a table of the best case.
 use crate::states::is_fitting;
+use orders::best_before;
 use rules::Units;
-use rules::best_before;
 use words::best_at;
 ghost use mathlib.Core.Path.{_≡_};
 ghost use lib.Dec.{eqb};

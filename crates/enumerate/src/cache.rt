@@ -1,6 +1,8 @@
 // The cache of document 01, section 1, with the sets, revisions and starts of document 02, requests 1/13, 6/13 and 12/13, written down by itself: up to four sets
 // of up to four ways. A set has four places in a row, each with a block's number, or 0 while the way is empty.
 use crate::numbers::read;
+use crate::numbers::wide;
+use rules::Cache;
 
 // A block for each way of four, in a set of its own; the low numbers are those of the runs.
 fn blocks_of(sets: u32) -> [u32; 16] {
@@ -122,19 +124,12 @@ fn victim(cache: &[u32; 16], base: usize, ways: u64, revision: u32, drawn: u64) 
 }
 
 // An access to `block` for which the way `drawn` is drawn: 1 where it misses. A hit changes nothing.
-pub(crate) fn access(
-    cache: &mut [u32; 16],
-    sets: u32,
-    ways: u64,
-    revision: u32,
-    block: u32,
-    drawn: u64,
-) -> u64 {
-    let base = base_of(sets, block);
+pub(crate) fn access(cache: &mut [u32; 16], told: Cache, block: u32, drawn: u64) -> u64 {
+    let base = base_of(told.sets, block);
     if holds(cache, base, block) {
         return 0;
     }
-    let way = victim(cache, base, ways, revision, drawn);
+    let way = victim(cache, base, wide(told.ways), told.revision, drawn);
     overwrite(cache, base, way, block);
     1
 }

@@ -1,29 +1,28 @@
-// The calls, each in a working room of its own; what they leave of a table is in the result room.
+// The calls on a row (see input.rt), each in a working room of its own; what they leave of a table is in the result room.
+use crate::input::accesses_of;
+use crate::input::cache_of;
+use crate::input::edges_of;
+use crate::input::runs_of;
+use crate::input::tracked_of;
+use crate::numbers::TOO_LARGE;
 use best::analyse_best;
 use estimate::analyse;
 use estimate::analyse_paired;
+use longest::longest_path;
 use rules::BestOutcome;
-use rules::Cache;
+use rules::Length;
 use rules::Outcome;
 
 // The graph call.
-pub(crate) fn worst(
-    result: &mut [u64],
-    cache: Cache,
-    limit: u32,
-    tracked: &[u32],
-    runs: &[u32],
-    accesses: &[u32],
-    edges: &[u32],
-) -> Outcome {
+pub(crate) fn worst(result: &mut [u64], row: &[u32], limit: u32) -> Outcome {
     let mut work: [u64; 25920] = [0; 25920];
     analyse(
-        cache,
+        cache_of(row),
         limit,
-        tracked,
-        runs,
-        accesses,
-        edges,
+        tracked_of(row),
+        runs_of(row),
+        accesses_of(row),
+        edges_of(row),
         result,
         &mut work,
     )
@@ -32,51 +31,60 @@ pub(crate) fn worst(
 // The graph call with pairings.
 pub(crate) fn paired(
     result: &mut [u64],
-    cache: Cache,
+    row: &[u32],
     limit: u32,
-    tracked: &[u32],
-    runs: &[u32],
-    accesses: &[u32],
-    edges: &[u32],
     counts: &[u64],
-    rows: &[u64],
+    pairs: &[u64],
 ) -> Outcome {
     let mut work: [u64; 25920] = [0; 25920];
     analyse_paired(
-        cache,
+        cache_of(row),
         limit,
-        tracked,
-        runs,
-        accesses,
-        edges,
+        tracked_of(row),
+        runs_of(row),
+        accesses_of(row),
+        edges_of(row),
         counts,
-        rows,
+        pairs,
         result,
         &mut work,
     )
 }
 
 // The best case's call, which is asked of an empty cache, however this one is found.
-pub(crate) fn surest(
-    result: &mut [u64],
-    cache: Cache,
-    limit: u32,
-    tracked: &[u32],
-    runs: &[u32],
-    accesses: &[u32],
-    edges: &[u32],
-) -> BestOutcome {
+pub(crate) fn surest(result: &mut [u64], row: &[u32], limit: u32) -> BestOutcome {
     let mut work: [u64; 25920] = [0; 25920];
+    let cache = cache_of(row);
     analyse_best(
         cache.sets,
         cache.ways,
         cache.revision,
         limit,
-        tracked,
-        runs,
-        accesses,
-        edges,
+        tracked_of(row),
+        runs_of(row),
+        accesses_of(row),
+        edges_of(row),
         result,
         &mut work,
     )
+}
+
+// The accesses of an answer; where it is a refusal, a number that no path has.
+fn accesses_said(answer: Length) -> u64 {
+    match answer {
+        Length::Accesses(accesses) => accesses,
+        Length::Refused(_) => TOO_LARGE,
+    }
+}
+
+// The accesses of the longest path.
+pub(crate) fn longest(row: &[u32], limit: u32) -> u64 {
+    accesses_said(longest_path(
+        cache_of(row),
+        limit,
+        tracked_of(row),
+        runs_of(row),
+        accesses_of(row),
+        edges_of(row),
+    ))
 }

@@ -1,13 +1,19 @@
 // One graph, one state limit: the graph call is made, and its table held to every path's choice sequences.
 use crate::cache::found;
+use crate::calls::longest;
 use crate::calls::surest;
 use crate::calls::worst;
 use crate::cycles::hold_cycles;
+use crate::input::accesses_of;
+use crate::input::cache_of;
+use crate::input::edges_of;
+use crate::input::nodes_of;
+use crate::input::tracked_of;
 use crate::joined::examine_joined;
-use crate::numbers::TOO_LARGE;
 use crate::numbers::WHOLE;
 use crate::numbers::power;
 use crate::numbers::read;
+use crate::numbers::wide;
 use crate::paths::collect;
 use crate::paths::is_path;
 use crate::paths::sets_of;
@@ -20,13 +26,9 @@ use crate::sequences::count_each;
 use crate::sequences::count_misses;
 use crate::sequences::sequences_in;
 use crate::sure::hold_best;
-use crate::sure::number_expected;
 use crate::sure::number_of;
 use crate::sure::states_of;
 use crate::table::total;
-use longest::longest_path;
-use rules::Cache;
-use rules::Length;
 use rules::Outcome;
 use rules::Start;
 use rules::Units;
@@ -45,7 +47,10 @@ fn is_tracked(tracked: &[u32], block: u32) -> bool {
     read(tracked, 3) == block
 }
 
-fn all_tracked(tracked: &[u32], accesses: &[u32]) -> bool {
+// Whether every access of a row is tracked.
+fn all_tracked(row: &[u32]) -> bool {
+    let tracked = tracked_of(row);
+    let accesses = accesses_of(row);
     let mut i: usize = 0;
     while i < accesses.len() {
         if !is_tracked(tracked, accesses[i]) {
@@ -93,133 +98,75 @@ fn examine_counts(
     cycles
 }
 
-// One path: `accesses` are those of its nodes. The cache is found as `kind` says.
+// One path, a row of its own (see input.rt). The cache is found as `kind` says.
 fn examine_from(
     kind: u32,
     table: &[u64],
     best: &[u64],
     told: Told,
-    cache: Cache,
-    tracked: &[u32],
-    accesses: &[u32],
+    run: &[u32],
     tight: bool,
     report: Report,
 ) -> Report {
-    let ways = cache.ways as u64;
-    let all = power(ways, accesses.len());
+    let cache = cache_of(run);
+    let ways = wide(cache.ways);
+    let accesses = accesses_of(run);
     let path = Path {
         accesses: accesses.len() as u64,
-        all,
+        all: power(ways, accesses.len()),
         tight,
     };
     let mut counts: [u64; 256] = [0; 256];
-    count_each(
-        &mut counts,
-        found(kind, cache.sets, ways),
-        accesses,
-        tracked,
-        cache.sets,
-        ways,
-        cache.revision,
-        all,
-    );
+    count_each(&mut counts, found(kind, cache.sets, ways), run, path.all);
     examine_counts(table, best, told, &counts, path, report)
 }
 
-// The same path from an empty cache and from used ones: no more than safe is promised then.
-fn examine_used(
-    table: &[u64],
-    best: &[u64],
-    told: Told,
-    cache: Cache,
-    tracked: &[u32],
-    accesses: &[u32],
-    report: Report,
-) -> Report {
+// The same path from an empty cache and from used ones: no more than safe is promised then, and nothing in the best case.
+fn examine_used(table: &[u64], told: Told, run: &[u32], report: Report) -> Report {
     let mut done = report;
     let mut kind: u32 = 0;
     while kind < 4 {
-        done = examine_from(
-            kind,
-            table,
-            best,
-            told,
-            cache,
-            tracked,
-            accesses,
-            false,
-            done,
-        );
+        done = examine_from(kind, table, &[], told, run, false, done);
         kind += 1;
     }
     done
 }
 
-// The path as the start says: from an empty cache, or from all, of which nothing is promised in the best case.
+// The path as the start says: from an empty cache, or from all.
 fn examine_path(
     table: &[u64],
     best: &[u64],
     told: Told,
-    cache: Cache,
-    tracked: &[u32],
-    accesses: &[u32],
+    run: &[u32],
     tight: bool,
     report: Report,
 ) -> Report {
-    if 16 < accesses.len() {
-        return report.compared(false);
-    }
+    let cache = cache_of(run);
     let start = cache.start;
     match start {
-        Start::Cold => examine_from(
-            0,
-            table,
-            best,
-            told,
-            cache,
-            tracked,
-            accesses,
-            tight,
-            report,
-        ),
-        Start::Warm => examine_used(table, &[], told, cache, tracked, accesses, report),
+        Start::Cold => examine_from(0, table, best, told, run, tight, report),
+        Start::Warm => examine_used(table, told, run, report),
     }
-}
-
-// The path that is the first `length` accesses of `path`.
-fn examine_first(
-    table: &[u64],
-    best: &[u64],
-    told: Told,
-    cache: Cache,
-    tracked: &[u32],
-    path: &[u32],
-    length: u64,
-    tight: bool,
-    report: Report,
-) -> Report {
-    if (path.len() as u64) < length {
-        return report.compared(false);
-    }
-    let end = length as usize;
-    examine_path(
-        table,
-        best,
-        told,
-        cache,
-        tracked,
-        &path[0..end],
-        tight,
-        report,
-    )
 }
 
 // Whether a graph is a straight run whose blocks are all tracked.
-fn is_tight(nodes: usize, tracked: &[u32], accesses: &[u32]) -> bool {
-    if nodes == 1 {
-        return all_tracked(tracked, accesses);
+fn is_tight(row: &[u32]) -> bool {
+    if nodes_of(row) == 1 {
+        return all_tracked(row);
     }
     false
+}
+
+// Whether a set of nodes is a path to the last one.
+fn is_whole_path(row: &[u32], chosen: u64) -> bool {
+    let nodes = nodes_of(row);
+    if nodes == 0 {
+        return false;
+    }
+    if 7 < nodes {
+        return false;
+    }
+    is_path(chosen, edges_of(row), (nodes - 1) as u32)
 }
 
 // A set of nodes, where it is a path.
@@ -227,122 +174,46 @@ fn examine_set(
     table: &[u64],
     best: &[u64],
     told: Told,
-    cache: Cache,
-    tracked: &[u32],
-    runs: &[u32],
-    accesses: &[u32],
-    edges: &[u32],
+    row: &[u32],
     chosen: u64,
     report: Report,
 ) -> Report {
-    let nodes = runs.len();
-    if nodes == 0 {
+    if !is_whole_path(row, chosen) {
         return report;
     }
-    if 7 < nodes {
+    let mut run: [u32; 52] = [0; 52];
+    if 16 < collect(&mut run, row, chosen) {
         return report.compared(false);
     }
-    if !is_path(chosen, edges, (nodes - 1) as u32) {
-        return report;
-    }
-    let mut path: [u32; 16] = [0; 16];
-    let length = collect(&mut path, chosen, runs, accesses);
-    let tight = is_tight(nodes, tracked, accesses);
-    examine_first(
-        table,
-        best,
-        told,
-        cache,
-        tracked,
-        &path,
-        length,
-        tight,
-        report,
-    )
+    examine_path(table, best, told, &run, is_tight(row), report)
 }
 
 // Every path.
-fn examine_paths(
-    table: &[u64],
-    best: &[u64],
-    told: Told,
-    cache: Cache,
-    tracked: &[u32],
-    runs: &[u32],
-    accesses: &[u32],
-    edges: &[u32],
-    report: Report,
-) -> Report {
-    let sets = sets_of(runs.len());
+fn examine_paths(table: &[u64], best: &[u64], told: Told, row: &[u32], report: Report) -> Report {
+    let sets = sets_of(nodes_of(row));
     let mut done = report;
     let mut chosen: u64 = 0;
     while chosen < sets {
-        done = examine_set(
-            table,
-            best,
-            told,
-            cache,
-            tracked,
-            runs,
-            accesses,
-            edges,
-            chosen,
-            done,
-        );
+        done = examine_set(table, best, told, row, chosen, done);
         chosen += 1;
     }
     done
 }
 
-// The finished table is the first `states` states of `result`. Of all paths the longest one has as many accesses as was told.
-fn examine_result(
-    result: &[u64],
-    states: usize,
-    best: &[u64],
-    told: Told,
-    cache: Cache,
-    limit: u32,
-    tracked: &[u32],
-    runs: &[u32],
-    accesses: &[u32],
-    edges: &[u32],
-    report: Report,
-) -> Report {
-    if result.len() / 5 < states {
-        return report.compared(false);
+// The first `states` states of a room; none where it has fewer.
+fn first_states<'a>(room: &'a [u64], states: usize) -> &'a [u64] {
+    if room.len() / 5 < states {
+        return &room[0..0];
     }
     let end = states * 5;
-    let table = &result[0..end];
-    let few = report.compared(states <= limit as usize);
-    let whole = few.compared(total(table) == WHOLE);
-    let paths = examine_paths(
-        table,
-        best,
-        told,
-        cache,
-        tracked,
-        runs,
-        accesses,
-        edges,
-        whole,
-    );
+    &room[0..end]
+}
+
+// The finished table. Of all paths the longest one has as many accesses as was told.
+fn examine_table(table: &[u64], best: &[u64], told: Told, row: &[u32], report: Report) -> Report {
+    let whole = report.compared(total(table) == WHOLE);
+    let paths = examine_paths(table, best, told, row, whole);
     paths.compared(paths.longest == told.longest)
-}
-
-// The accesses of the longest path; where it is refused, a number that no path has.
-fn accesses_of(answer: Length) -> u64 {
-    match answer {
-        Length::Accesses(accesses) => accesses,
-        Length::Refused(_) => TOO_LARGE,
-    }
-}
-
-// The units of a table total 2^48, or there is no table.
-fn is_whole(table: &[u64]) -> bool {
-    if table.len() == 0 {
-        return true;
-    }
-    total(table) == WHOLE
 }
 
 // What the calls told of a graph.
@@ -358,124 +229,67 @@ pub(crate) fn examine_answer(
     answer: Outcome,
     result: &[u64],
     best: &[u64],
-    cache: Cache,
+    row: &[u32],
     limit: u32,
-    tracked: &[u32],
-    runs: &[u32],
-    accesses: &[u32],
-    edges: &[u32],
     report: Report,
 ) -> Report {
-    let longest = accesses_of(longest_path(cache, limit, tracked, runs, accesses, edges));
     match answer {
-        Outcome::Finished(states, aside) => examine_result(
-            result,
-            states,
-            best,
-            told_of(aside, longest),
-            cache,
-            limit,
-            tracked,
-            runs,
-            accesses,
-            edges,
-            report,
-        ),
+        Outcome::Finished(states, aside) => {
+            let few = report.compared(states <= limit as usize);
+            let told = told_of(aside, longest(row, limit));
+            examine_table(first_states(result, states), best, told, row, few)
+        }
         Outcome::Refused(_) => report.compared(false),
     }
 }
 
 // The graph call with one state limit, beside the best case's table.
-fn examine_worst(
-    best: &[u64],
-    cache: Cache,
-    limit: u32,
-    tracked: &[u32],
-    runs: &[u32],
-    accesses: &[u32],
-    edges: &[u32],
-    report: Report,
-) -> Report {
+fn examine_worst(best: &[u64], row: &[u32], limit: u32, report: Report) -> Report {
     let mut result: [u64; 320] = [0; 320];
-    let answer = worst(&mut result, cache, limit, tracked, runs, accesses, edges);
-    examine_answer(
-        answer,
-        &result,
-        best,
-        cache,
-        limit,
-        tracked,
-        runs,
-        accesses,
-        edges,
-        report,
-    )
+    let answer = worst(&mut result, row, limit);
+    examine_answer(answer, &result, best, row, limit, report)
 }
 
-// The best case's table is the first `states` states of `result`; none where it is refused.
-fn examine_best(
-    result: &[u64],
-    states: usize,
-    cache: Cache,
-    limit: u32,
-    tracked: &[u32],
-    runs: &[u32],
-    accesses: &[u32],
-    edges: &[u32],
-    report: Report,
-) -> Report {
-    if result.len() / 5 < states {
-        return report.compared(false);
+// How the best case is answered: 18 for the second revision, 17 where an access is not tracked, and otherwise it is accepted.
+fn number_expected(row: &[u32]) -> u64 {
+    if read(row, 2) == 2 {
+        return 18;
     }
-    let end = states * 5;
-    let best = &result[0..end];
-    let few = report.compared(states <= limit as usize);
-    let whole = few.compared(is_whole(best));
-    examine_worst(best, cache, limit, tracked, runs, accesses, edges, whole)
+    if all_tracked(row) {
+        return 0;
+    }
+    17
 }
 
-// Both tables with one state limit.
-fn examine(
-    cache: Cache,
-    limit: u32,
-    tracked: &[u32],
-    runs: &[u32],
-    accesses: &[u32],
-    edges: &[u32],
-    report: Report,
-) -> Report {
+// The units of a table total 2^48, or there is no table.
+fn is_whole(table: &[u64]) -> bool {
+    if table.len() == 0 {
+        return true;
+    }
+    total(table) == WHOLE
+}
+
+// Both tables with one state limit; the best case's is empty where it is refused.
+fn examine(row: &[u32], limit: u32, report: Report) -> Report {
     let mut result: [u64; 320] = [0; 320];
-    let called = report.called();
-    let answer = surest(&mut result, cache, limit, tracked, runs, accesses, edges);
-    let expected = number_expected(cache, all_tracked(tracked, accesses));
-    let answered = called.compared(number_of(answer) == expected);
-    examine_best(
-        &result,
-        states_of(answer),
-        cache,
-        limit,
-        tracked,
-        runs,
-        accesses,
-        edges,
-        answered,
-    )
+    let answer = surest(&mut result, row, limit);
+    let states = states_of(answer);
+    let best = first_states(&result, states);
+    let whole = report
+        .called()
+        .compared(number_of(answer) == number_expected(row))
+        .compared(states <= limit as usize)
+        .compared(is_whole(best));
+    examine_worst(best, row, limit, whole)
 }
 
 // The graph call with a wide state limit and with narrow ones; and with a wide and a narrow one by a random pairing.
-pub(crate) fn examine_limits(
-    cache: Cache,
-    tracked: &[u32],
-    runs: &[u32],
-    accesses: &[u32],
-    edges: &[u32],
-    report: Report,
-) -> Report {
-    let wide = examine(cache, 64, tracked, runs, accesses, edges, report);
-    let one = examine(cache, 1, tracked, runs, accesses, edges, wide);
-    let two = examine(cache, 2, tracked, runs, accesses, edges, one);
-    let three = examine(cache, 3, tracked, runs, accesses, edges, two);
-    let five = examine(cache, 5, tracked, runs, accesses, edges, three);
-    let joined = examine_joined(cache, 64, tracked, runs, accesses, edges, five);
-    examine_joined(cache, 3, tracked, runs, accesses, edges, joined)
+pub(crate) fn examine_limits(row: &[u32], report: Report) -> Report {
+    let wide = examine(row, 64, report);
+    let one = examine(row, 1, wide);
+    let two = examine(row, 2, one);
+    let three = examine(row, 3, two);
+    let five = examine(row, 5, three);
+    let joined = examine_joined(row, 64, five);
+    examine_joined(row, 3, joined)
 }

@@ -1,10 +1,10 @@
 // Small branching graphs.
+use crate::input::put_graph;
 use crate::numbers::read;
 use crate::numbers::times;
 use crate::numbers::wide;
 use crate::report::Report;
-use crate::sweep::part;
-use crate::sweep::sweep_row;
+use crate::sweep::sweep;
 
 // The edges of a graph: how many numbers there are, and they, from, to, from, to.
 const EDGES: [[u32; 17]; 5] = [
@@ -20,24 +20,25 @@ const EDGES: [[u32; 17]; 5] = [
     [4, 0, 1, 1, 2, 0, 0, 0, 0, 0, 0, 0, 0, 0, 0, 0, 0],
 ];
 
-// A row for each graph: its edges, as a place above; the accesses of all nodes; how far apart the access lists are that are taken; how many nodes there are, and
-// the run length of each.
+// A row for each graph: how many nodes there are, and the run length of each; its edges, as a place above; the accesses of all nodes; how far apart the access lists
+// are that are taken.
 const GRAPHS: [[u32; 11]; 12] = [
-    [0, 4, 1, 4, 1, 1, 1, 1, 0, 0, 0],
-    [0, 3, 1, 4, 1, 1, 0, 1, 0, 0, 0],
-    [0, 6, 7, 4, 2, 1, 2, 1, 0, 0, 0],
-    [0, 6, 11, 4, 0, 2, 2, 2, 0, 0, 0],
-    [0, 3, 1, 4, 1, 0, 0, 2, 0, 0, 0],
-    [1, 5, 2, 5, 1, 1, 1, 1, 1, 0, 0],
-    [1, 6, 13, 5, 2, 1, 2, 0, 1, 0, 0],
-    [2, 3, 1, 3, 1, 1, 1, 0, 0, 0, 0],
-    [2, 6, 7, 3, 2, 2, 2, 0, 0, 0, 0],
-    [3, 7, 41, 7, 1, 1, 1, 1, 1, 1, 1],
-    [3, 0, 1, 7, 0, 0, 0, 0, 0, 0, 0],
-    [4, 3, 1, 3, 1, 0, 2, 0, 0, 0, 0],
+    [4, 1, 1, 1, 1, 0, 0, 0, 0, 4, 1],
+    [4, 1, 1, 0, 1, 0, 0, 0, 0, 3, 1],
+    [4, 2, 1, 2, 1, 0, 0, 0, 0, 6, 7],
+    [4, 0, 2, 2, 2, 0, 0, 0, 0, 6, 11],
+    [4, 1, 0, 0, 2, 0, 0, 0, 0, 3, 1],
+    [5, 1, 1, 1, 1, 1, 0, 0, 1, 5, 2],
+    [5, 2, 1, 2, 0, 1, 0, 0, 1, 6, 13],
+    [3, 1, 1, 1, 0, 0, 0, 0, 2, 3, 1],
+    [3, 2, 2, 2, 0, 0, 0, 0, 2, 6, 7],
+    [7, 1, 1, 1, 1, 1, 1, 1, 3, 7, 41],
+    [7, 0, 0, 0, 0, 0, 0, 0, 3, 0, 1],
+    [3, 1, 0, 2, 0, 0, 0, 0, 4, 3, 1],
 ];
 
-// A row for each cache that every graph is examined on, as sweep.rt has them, and one number more: how many times as far apart the access lists are.
+// A row for each cache that every graph is examined on: the numbers of the cache and the blocks, as input.rt has them, and one more: how many times as far apart the
+// access lists are.
 const CACHES: [[u32; 11]; 12] = [
     // One set, with one, two and three ways, and with some blocks untracked.
     [1, 1, 1, 0, 3, 1, 2, 3, 0, 3, 1],
@@ -57,17 +58,12 @@ const CACHES: [[u32; 11]; 12] = [
     [1, 2, 2, 1, 2, 2, 3, 0, 0, 3, 1],
 ];
 
-// A graph with the edges of a row, on the cache of a row.
-fn on_cache(row: &[u32], graph: &[u32], edges: &[u32], report: Report) -> Report {
-    let stride = times(wide(read(graph, 2)), wide(read(row, 10)));
-    sweep_row(
-        row,
-        part(graph, 4, read(graph, 3)),
-        part(edges, 1, read(edges, 0)),
-        read(graph, 1) as usize,
-        stride,
-        report,
-    )
+// A graph with these edges, on the cache of a row.
+fn on_cache(cache: &[u32], graph: &[u32], edges: &[u32], report: Report) -> Report {
+    let mut row: [u32; 52] = [0; 52];
+    put_graph(&mut row, cache, graph, edges, read(graph, 9));
+    let stride = times(wide(read(graph, 10)), wide(read(cache, 10)));
+    sweep(&mut row, stride, report)
 }
 
 // The same on each of the caches.
@@ -83,7 +79,7 @@ fn on_caches(graph: &[u32], edges: &[u32], report: Report) -> Report {
 
 // A graph with the edges that it names.
 fn with_edges(graph: &[u32], report: Report) -> Report {
-    let named = read(graph, 0) as usize;
+    let named = read(graph, 8) as usize;
     if 4 < named {
         return report.compared(false);
     }

@@ -28,6 +28,7 @@ mod cores;
 mod cycles;
 mod examine;
 mod graphs;
+mod input;
 mod joined;
 mod numbers;
 mod pairs;

@@ -97,3 +97,11 @@ pub(crate) fn read(list: &[u32], at: usize) -> u32 {
 pub(crate) fn wide(n: u32) -> u64 {
     n as u64
 }
+
+// A number as 32 bits; the largest stands for one that does not fit.
+pub(crate) fn narrow(n: u64) -> u32 {
+    if 4294967295 < n {
+        return 4294967295;
+    }
+    n as u32
+}

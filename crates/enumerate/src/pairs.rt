@@ -2,6 +2,8 @@
 // budget. Before the first join there is one path to a node, so that the join's two tables are those of straight runs; states that have units left are taken
 // at random, and some or all of the units that both have.
 use crate::calls::worst;
+use crate::input::edges_of;
+use crate::input::nodes_of;
 use crate::numbers::digit;
 use crate::numbers::less;
 use crate::numbers::plus;
@@ -10,7 +12,6 @@ use crate::numbers::times;
 use crate::paths::collect;
 use crate::paths::is_path;
 use crate::paths::sets_of;
-use rules::Cache;
 use rules::Outcome;
 
 // The random number after another.
@@ -189,45 +190,21 @@ fn path_to(edges: &[u32], node: u32, sets: u64) -> u64 {
     0
 }
 
-// The table of a straight run, the first `length` accesses of `path`: how many states it has.
-fn straight_table(
-    result: &mut [u64],
-    cache: Cache,
-    limit: u32,
-    tracked: &[u32],
-    path: &[u32],
-    length: u64,
-) -> usize {
-    if 16 < length {
-        return 0;
-    }
-    if (path.len() as u64) < length {
-        return 0;
-    }
-    let end = length as usize;
-    let runs: [u32; 1] = [length as u32];
-    match worst(result, cache, limit, tracked, &runs, &path[0..end], &[]) {
+// How many states an answer's table has.
+fn states_of(answer: Outcome) -> usize {
+    match answer {
         Outcome::Finished(states, _) => states,
         Outcome::Refused(_) => 0,
     }
 }
 
 // The units of the table of `node`, which is reached by one path; how many states it has.
-pub(crate) fn units_of_node(
-    units: &mut [u64; 64],
-    cache: Cache,
-    limit: u32,
-    tracked: &[u32],
-    runs: &[u32],
-    accesses: &[u32],
-    edges: &[u32],
-    node: u32,
-) -> usize {
+pub(crate) fn units_of_node(units: &mut [u64; 64], row: &[u32], limit: u32, node: u32) -> usize {
     let mut result: [u64; 320] = [0; 320];
-    let mut path: [u32; 16] = [0; 16];
-    let chosen = path_to(edges, node, sets_of(runs.len()));
-    let length = collect(&mut path, chosen, runs, accesses);
-    let states = straight_table(&mut result, cache, limit, tracked, &path, length);
+    let mut path: [u32; 52] = [0; 52];
+    let chosen = path_to(edges_of(row), node, sets_of(nodes_of(row)));
+    collect(&mut path, row, chosen);
+    let states = states_of(worst(&mut result, &path, limit));
     take_units(units, &result);
     states
 }

@@ -1,5 +1,11 @@
 // The paths of a small graph, at most seven nodes. Edges lead from lower nodes to higher ones, so a path is a set of nodes,
 // taken in rising order: bit j of `chosen` says that node j is on it.
+use crate::input::FIRST_ACCESS;
+use crate::input::accesses_of;
+use crate::input::put;
+use crate::input::put_straight;
+use crate::input::runs_of;
+use crate::numbers::narrow;
 use crate::numbers::plus;
 use crate::numbers::read;
 use crate::numbers::wide;
@@ -62,18 +68,16 @@ pub(crate) fn is_path(chosen: u64, edges: &[u32], last: u32) -> bool {
     at == last
 }
 
-fn put(path: &mut [u32], at: u64, block: u32) {
-    let place = at as usize;
-    if place < path.len() {
-        path[place] = block;
-    }
-}
-
-// Copies the `count` accesses from place `from` to place `to` of the path.
-fn copy(path: &mut [u32], to: u64, accesses: &[u32], from: u64, count: u64) {
+// Copies the `count` accesses from place `from` on to the end of a path that has `size` accesses.
+fn copy(path: &mut [u32], size: u64, accesses: &[u32], from: u64, count: u64) {
+    let to = plus(FIRST_ACCESS, size);
     let mut i: u64 = 0;
     while i < count {
-        put(path, plus(to, i), read(accesses, plus(from, i) as usize));
+        put(
+            path,
+            plus(to, i) as usize,
+            read(accesses, plus(from, i) as usize),
+        );
         i += 1;
     }
 }
@@ -99,7 +103,7 @@ fn extend(
 }
 
 // Writes the accesses of the chosen nodes' runs to `path`, and answers how many there are.
-pub(crate) fn collect(path: &mut [u32], chosen: u64, runs: &[u32], accesses: &[u32]) -> u64 {
+fn copy_chosen(path: &mut [u32], chosen: u64, runs: &[u32], accesses: &[u32]) -> u64 {
     let mut size: u64 = 0;
     let mut from: u64 = 0;
     let mut node: usize = 0;
@@ -109,5 +113,12 @@ pub(crate) fn collect(path: &mut [u32], chosen: u64, runs: &[u32], accesses: &[u
         from = plus(from, count);
         node += 1;
     }
+    size
+}
+
+// Writes the path of the chosen nodes as a row of its own, a straight run, and answers how many accesses it has.
+pub(crate) fn collect(path: &mut [u32], row: &[u32], chosen: u64) -> u64 {
+    let size = copy_chosen(path, chosen, runs_of(row), accesses_of(row));
+    put_straight(path, row, narrow(size));
     size
 }

@@ -2,9 +2,13 @@
 // sequences that end with these contents and misses: masks and misses are below 16 here.
 use crate::cache::access;
 use crate::cache::contents;
+use crate::input::accesses_of;
+use crate::input::cache_of;
+use crate::input::tracked_of;
 use crate::numbers::digit;
 use crate::numbers::other_digits;
 use crate::numbers::plus;
+use crate::numbers::wide;
 
 // The cell of a mask and a miss count; 256, which is none, where one is not below 16.
 fn cell_of(mask: u64, misses: u64) -> usize {
@@ -17,30 +21,23 @@ fn cell_of(mask: u64, misses: u64) -> usize {
     (mask * 16 + misses) as usize
 }
 
-// The cell of one choice sequence, the cache being found so: way `draws` % `ways` is drawn at the first access, and so on digit by digit. There is a
+// The cell of one choice sequence of a path, the cache being found so: way `draws` % `ways` is drawn at the first access, and so on digit by digit. There is a
 // draw at every access, hits included.
-fn walk(
-    found: [u32; 16],
-    path: &[u32],
-    tracked: &[u32],
-    sets: u32,
-    ways: u64,
-    revision: u32,
-    draws: u64,
-) -> usize {
+fn walk(found: [u32; 16], path: &[u32], draws: u64) -> usize {
+    let told = cache_of(path);
+    let ways = wide(told.ways);
+    let accesses = accesses_of(path);
     let mut cache = found;
     let mut misses: u64 = 0;
     let mut left = draws;
     let mut i: usize = 0;
-    while i < path.len() {
-        misses = plus(
-            misses,
-            access(&mut cache, sets, ways, revision, path[i], digit(left, ways)),
-        );
+    while i < accesses.len() {
+        let drawn = digit(left, ways);
+        misses = plus(misses, access(&mut cache, told, accesses[i], drawn));
         left = other_digits(left, ways);
         i += 1;
     }
-    cell_of(contents(&cache, sets, tracked), misses)
+    cell_of(contents(&cache, told.sets, tracked_of(path)), misses)
 }
 
 fn count_in(counts: &mut [u64; 256], cell: usize) {
@@ -50,22 +47,10 @@ fn count_in(counts: &mut [u64; 256], cell: usize) {
 }
 
 // Counts each of the `all` choice sequences of a path, the cache being found so.
-pub(crate) fn count_each(
-    counts: &mut [u64; 256],
-    found: [u32; 16],
-    path: &[u32],
-    tracked: &[u32],
-    sets: u32,
-    ways: u64,
-    revision: u32,
-    all: u64,
-) {
+pub(crate) fn count_each(counts: &mut [u64; 256], found: [u32; 16], path: &[u32], all: u64) {
     let mut draws: u64 = 0;
     while draws < all {
-        count_in(
-            counts,
-            walk(found, path, tracked, sets, ways, revision, draws),
-        );
+        count_in(counts, walk(found, path, draws));
         draws += 1;
     }
 }

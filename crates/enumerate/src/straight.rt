@@ -1,10 +1,11 @@
 // Straight runs: one node, no edges.
+use crate::input::put_straight;
 use crate::numbers::read;
 use crate::numbers::wide;
 use crate::report::Report;
-use crate::sweep::sweep_row;
+use crate::sweep::sweep;
 
-// A row for each kind of run, as sweep.rt has them, and three numbers more: how many accesses at least, and fewer than how many; how far
+// A row for each kind of run: the numbers of its cache and blocks, as input.rt has them, and three more: how many accesses at least, and fewer than how many; how far
 // apart the access lists are that are taken.
 const RUNS: [[u32; 13]; 35] = [
     // Three blocks, all tracked, listed in another order than by number.
@@ -53,15 +54,9 @@ const RUNS: [[u32; 13]; 35] = [
 
 // The runs of one length.
 fn of_length(row: &[u32], length: u32, report: Report) -> Report {
-    let runs: [u32; 1] = [length];
-    sweep_row(
-        row,
-        &runs,
-        &[],
-        length as usize,
-        wide(read(row, 12)),
-        report,
-    )
+    let mut run: [u32; 52] = [0; 52];
+    put_straight(&mut run, row, length);
+    sweep(&mut run, wide(read(row, 12)), report)
 }
 
 // The runs of a row.

@@ -7,7 +7,6 @@ use crate::promises::Path;
 use crate::report::Report;
 use crate::table::if_above;
 use rules::BestOutcome;
-use rules::Cache;
 
 // The count that is looked at: hits, or misses.
 fn one_of(of_hits: bool, misses: u64, hits: u64) -> u64 {
@@ -71,17 +70,6 @@ pub(crate) fn hold_best(best: &[u64], totals: &[u64; 16], path: Path, report: Re
         return report;
     }
     hold_numbers(best, totals, path, report)
-}
-
-// How the best case is answered: 18 for the second revision, 17 where an access is not tracked, and otherwise it is accepted.
-pub(crate) fn number_expected(cache: Cache, all_tracked: bool) -> u64 {
-    if cache.revision == 2 {
-        return 18;
-    }
-    if all_tracked {
-        return 0;
-    }
-    17
 }
 
 // The number of an answer.

@@ -1,45 +1,12 @@
-// Many access lists for one graph, on a cache that a row of numbers tells.
+// Many access lists for one graph.
 use crate::examine::examine_limits;
+use crate::input::accesses_of;
+use crate::input::blocks_of;
+use crate::input::put;
 use crate::numbers::digit;
 use crate::numbers::other_digits;
 use crate::numbers::power;
-use crate::numbers::read;
-use crate::numbers::wide;
 use crate::report::Report;
-use rules::Cache;
-use rules::Start;
-
-// How the cache is found: 1 says that it was used.
-fn start_of(used: u32) -> Start {
-    if used == 1 {
-        return Start::Warm;
-    }
-    Start::Cold
-}
-
-// The cache of a row.
-fn cache_of(row: &[u32]) -> Cache {
-    let start = start_of(read(row, 3));
-    Cache {
-        sets: read(row, 0),
-        ways: read(row, 1),
-        revision: read(row, 2),
-        start,
-    }
-}
-
-// The `count` numbers of a list from place `from` on; none where it has fewer.
-pub(crate) fn part<'a>(list: &'a [u32], from: usize, count: u32) -> &'a [u32] {
-    let n = count as usize;
-    if list.len() < from {
-        return &list[0..0];
-    }
-    if list.len() - from < n {
-        return &list[0..0];
-    }
-    let end = from + n;
-    &list[from..end]
-}
 
 // Block numbers are 1 and up.
 fn block_of(digit: u64) -> u32 {
@@ -53,103 +20,40 @@ fn block_of(digit: u64) -> u32 {
 }
 
 // Writes the access list with number `number`: its digits to the base `blocks`.
-fn write_list(list: &mut [u32], number: u64, blocks: u64) {
+fn write_list(row: &mut [u32], number: u64, blocks: u64) {
     let mut left = number;
-    let mut i: usize = 0;
-    while i < list.len() {
-        list[i] = block_of(digit(left, blocks));
+    let mut at: usize = 36;
+    while at < 52 {
+        put(row, at, block_of(digit(left, blocks)));
         left = other_digits(left, blocks);
-        i += 1;
+        at += 1;
     }
 }
 
-// The first `length` accesses of a list.
-fn examine_first(
-    cache: Cache,
-    tracked: &[u32],
-    runs: &[u32],
-    list: &[u32],
-    edges: &[u32],
-    length: usize,
-    report: Report,
-) -> Report {
-    if list.len() < length {
-        return report.compared(false);
-    }
-    examine_limits(cache, tracked, runs, &list[0..length], edges, report)
-}
-
-// One access list of `length` accesses: `number` tells which. Where `stride` does not divide `number` it is left out.
-fn examine_list(
-    cache: Cache,
-    tracked: &[u32],
-    blocks: u64,
-    runs: &[u32],
-    edges: &[u32],
-    length: usize,
-    stride: u64,
-    number: u64,
-    report: Report,
-) -> Report {
+// One access list: `number` tells which. Where `stride` does not divide `number` it is left out.
+fn examine_list(row: &mut [u32], stride: u64, number: u64, report: Report) -> Report {
     if digit(number, stride) != 0 {
         return report;
     }
-    let mut list: [u32; 16] = [0; 16];
-    write_list(&mut list, number, blocks);
-    examine_first(cache, tracked, runs, &list, edges, length, report)
+    let blocks = blocks_of(row);
+    write_list(row, number, blocks);
+    examine_limits(row, report)
 }
 
-// Every access list of `length` accesses over `blocks` blocks, or every `stride`-th.
-pub(crate) fn sweep(
-    cache: Cache,
-    tracked: &[u32],
-    blocks: u64,
-    runs: &[u32],
-    edges: &[u32],
-    length: usize,
-    stride: u64,
-    report: Report,
-) -> Report {
-    let lists = power(blocks, length);
+// How many access lists there are.
+fn lists_of(row: &[u32]) -> u64 {
+    let accesses = accesses_of(row);
+    power(blocks_of(row), accesses.len())
+}
+
+// Every access list of a row's graph, or every `stride`-th.
+pub(crate) fn sweep(row: &mut [u32], stride: u64, report: Report) -> Report {
+    let lists = lists_of(row);
     let mut done = report;
     let mut number: u64 = 0;
     while number < lists {
-        done = examine_list(
-            cache,
-            tracked,
-            blocks,
-            runs,
-            edges,
-            length,
-            stride,
-            number,
-            done,
-        );
+        done = examine_list(row, stride, number, done);
         number += 1;
     }
     done
-}
-
-// The same on the cache of a row, whose numbers are: the sets, the ways, the revision, and 1 where the cache is used; how many blocks are tracked, and four numbers, the first of
-// which are they; how many blocks there are.
-pub(crate) fn sweep_row(
-    row: &[u32],
-    runs: &[u32],
-    edges: &[u32],
-    length: usize,
-    stride: u64,
-    report: Report,
-) -> Report {
-    let tracked = part(row, 5, read(row, 4));
-    let blocks = wide(read(row, 9));
-    sweep(
-        cache_of(row),
-        tracked,
-        blocks,
-        runs,
-        edges,
-        length,
-        stride,
-        report,
-    )
 }

@@ -31,6 +31,7 @@ use Rattle.words.specs.Tables.{tableOf}
 use Rattle.estimate.specs.Rooms.{InPlace, NodeDone, filled, slotOf, tableIn, workedIn}
 use Rattle.tables.specs.Rooms.{tablesIn as tablesAny}
 use Rattle.states.specs.Filling.{startsEmptyOf}
+use Rattle.nodes.specs.Starts.{asideAtStart}
 use Rattle.estimate.specs.Working.{workAt, startOf, InRange, Ready, Startable}
 use Rattle.words.proofs.Tables.{fits-table}
 use Rattle.tables.proofs.Nodes.{tablesIn-kept, tablesIn-at, seal-table, seal-before}
@@ -158,9 +159,10 @@ node-done Q c ts K j a n a₁ m b l bs es ws ws₁ ws₂ T short s e g f h q =
 abbrev pub cacheOf : Input → Cache
 cacheOf i = cache (i .sets) (i .ways) (i .revision) (i .start)
 
-pub nodes-start : (Q : Entries) (i : Input) (T : List State) → (workedIn 0 0 T ≡ workedBy Q i 0) × (true ≡ allFit Q i 0) × (0 ≡ joinsTo (edgesOf (i .edges)) 0)
+pub nodes-start : (Q : Entries) (i : Input) (T : List State) (a : ℕ) → a ≡ asideAtStart
+    → (workedIn 0 a T ≡ workedBy Q i 0) × (true ≡ allFit Q i 0) × (0 ≡ joinsTo (edgesOf (i .edges)) 0)
 unfolding workedAny allFitAny tablesAny joinsTo
-nodes-start Q i T = (refl, refl, refl)
+nodes-start Q i T a e = (rw e refl, refl, refl)
 
 module _ (Q : Entries) (i : Input) (ok : Checked i) (j : ℕ) (l : j < nodes i) where
   -- it can be worked where the nodes before it are

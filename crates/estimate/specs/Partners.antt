@@ -12,7 +12,7 @@ use Rattle.rules.specs.Table.{unitsOf, stateAt, add}
 use Rattle.rules.specs.Fold.{sharing, apart}
 -- the place of the one at place p among the others than the one at place i
 pub use Rattle.rules.proofs.Partners.{among}
-pub use Rattle.states.specs.Partners.{holdsAll, isAlike}
+pub use Rattle.folding.specs.Partners.{holdsAll, isAlike}
 
 -- s stands at place i of T before all that are alike to it: it holds tracked blocks only, and the state before it is not alike
 abbrev pub leads : State → List State → ℕ → Bool

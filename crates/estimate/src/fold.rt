@@ -4,20 +4,22 @@ use crate::memory::store;
 use crate::placing::add;
 use crate::tally::Least;
 use crate::tally::Tally;
+use folding::is_above_limit;
+use folding::none_nearer;
+use folding::partner::apart;
+use folding::partner::closer;
+use folding::partner::fewest_of_four;
+use folding::partner::holds_all;
+use folding::partner::is_alike;
+use folding::partner::is_unbeaten;
+use folding::partner::made_one;
+use folding::partner::one_fewer;
+use folding::partner::set_aside;
+use folding::partner::sharing;
 use rules::Pair;
 use rules::State;
 use rules::Units;
 use states::is_same;
-use states::partner::apart;
-use states::partner::closer;
-use states::partner::fewest_of_four;
-use states::partner::holds_all;
-use states::partner::is_alike;
-use states::partner::is_unbeaten;
-use states::partner::made_one;
-use states::partner::one_fewer;
-use states::partner::set_aside;
-use states::partner::sharing;
 use tables::size_of;
 ghost use mathlib.Core.Path.{_≡_};
 ghost use mathlib.Core.Logic.{_≢_};
@@ -160,7 +162,7 @@ pub(crate) fn nearest_holder(words: &[u64], n: usize, at: usize, s: State, first
     let mut near = apart(s, load(words, first));
     let mut j = first + 1;
     while j < n {
-        if near <= 1 {
+        if none_nearer(near) {
             return found;
         }
         if is_nearer(words, at, s, j, near) {
@@ -373,7 +375,7 @@ pub(crate) fn fold_down(words: &mut [u64], n: usize, limit: usize, aside: Units)
     ensures { λ r. ⌜ Stands (folded limit (record { table = take n (tableOf (now (words .entry))); aside = aside .0 })) (r .states) (r .aside .0) (tableOf (now (words .exit))) ⌝ }
 {
     let mut tally = Tally { states: n, aside };
-    while limit < tally.states {
+    while is_above_limit(tally.states, limit) {
         tally = fold_once(words, tally.states, tally.aside);
     }
     tally

@@ -7,6 +7,10 @@ use crate::slots::count;
 use crate::slots::seal;
 use crate::tally::Joined;
 use crate::tally::Tally;
+use nodes::after_edge;
+use nodes::aside_at_start;
+use nodes::last::last_after;
+use nodes::last::last_before;
 use pairings::joins_to;
 use rules::Cache;
 use rules::Last;
@@ -14,8 +18,6 @@ use rules::State;
 use rules::Units;
 use states::both;
 use states::filled::start_of;
-use states::last::last_after;
-use states::last::last_before;
 use tables::next_edge;
 ghost use mathlib.Core.Path.{_≡_};
 ghost use mathlib.Core.Bool.{_&&_};
@@ -110,7 +112,8 @@ pub(crate) fn enter(
         aside,
         fits: true,
     };
-    join_others(work, to, first, edges, e + 2, limit, counts, rows, joins)
+    let others = after_edge(e, edges.len());
+    join_others(work, to, first, edges, others, limit, counts, rows, joins)
 }
 
 // Node `j`, whose run is `accesses`, after the nodes before it, where `last` was accessed directly before.
@@ -161,10 +164,8 @@ pub(crate) fn work_nodes(
     requires { ⌜ (25920 ≤ length (now work)) × Checked (inputOf cache limit (now tracked) (now runs) (now accesses) (now edges)) × Formed (length (now counts)) (now counts) (now rows) ⌝ }
     ensures { λ r. ⌜ (workedIn (length (now (runs .entry))) (r .aside .0) (tableOf (now (work .exit))) ≡ workedBy (entryOf (now (counts .entry)) (now (rows .entry))) (inputOf cache limit (now (tracked .entry)) (now (runs .entry)) (now (accesses .entry)) (now (edges .entry))) (length (now (runs .entry)))) × (r .fits ≡ allFit (entryOf (now (counts .entry)) (now (rows .entry))) (inputOf cache limit (now (tracked .entry)) (now (runs .entry)) (now (accesses .entry)) (now (edges .entry))) (length (now (runs .entry)))) ⌝ }
 {
-    let mut done = Done {
-        aside: Units(0),
-        fits: true,
-    };
+    let aside = aside_at_start();
+    let mut done = Done { aside, fits: true };
     let mut lasts: [Last; 64] = [Last::Unknown; 64];
     let mut joins: usize = 0;
     let mut from: usize = 0;

@@ -12,10 +12,10 @@ use Rattle.recorder.specs.declared.Counted.{Counted}
 use Rattle.recorder.specs.declared.Reading.{Reading}
 use Rattle.recorder.specs.Calls.{ReadLeft, CountLeft}
 use Rattle.nightly.specs.declared.Built.{Built}
-use Rattle.nightly.specs.declared.Report.{Report}
+use Rattle.night_rows.specs.declared.Report.{Report}
 use Rattle.nightly.specs.Call.{BuildLeft}
 use Rattle.writing.specs.declared.Written.{Written}
-use Rattle.text.specs.Rooms.{Rooms, NumbersWritten, TextWritten}
+use Rattle.printed.specs.Rooms.{Rooms, NumbersWritten, TextWritten}
 use Rattle.given.specs.Answers.{OutcomeGiven, ValueGiven, ReadingGiven, SizesGiven, outcomeGiven, sizesGiven, countGiven, readingGiven, bytesOf}
 use Rattle.estimate_c.specs.Given.{graphGiven, listingGiven, builtGiven, nightlyGiven, spreadGiven, readGiven, countedGiven, numbersGiven, textGiven}
 

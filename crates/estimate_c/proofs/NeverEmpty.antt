@@ -11,16 +11,16 @@ use Rattle.rules.specs.declared.Verdict.the-variants.{Accepted, Refused}
 use Rattle.rules.specs.Answers.{numberOf}
 use Rattle.rules.specs.Input.{Input}
 use Rattle.rules.specs.Refusals.{verdict}
-use Rattle.parts.specs.Parts.{complete, inputFrom}
+use Rattle.curve_numbers.specs.Parts.{complete, inputFrom}
 use Rattle.reading.specs.Reading.{wellFormed, numbersIn}
 use Rattle.writing.specs.Writing.{refusedLine}
 use Rattle.writing.specs.Told.{told, ofText}
 use Rattle.lines.specs.Lines.{headWords}
-use Rattle.text.specs.Choices.{plain}
-use Rattle.text.specs.Printed.{ofInput, ofNumbers}
-use Rattle.text.specs.Curve.{curve, curveOfNumbers, curveOfText}
+use Rattle.printed.specs.Choices.{plain}
+use Rattle.printed.specs.Printed.{ofInput, ofNumbers}
+use Rattle.printed.specs.Curve.{curve, curveOfNumbers, curveOfText}
 use Rattle.lines.specs.Cores.{longestLine}
-use Rattle.text.specs.Cycles.{inCycles, cyclesOfNumbers, cyclesOfText}
+use Rattle.printed.specs.Cycles.{inCycles, cyclesOfNumbers, cyclesOfText}
 
 refused-some : (n : ℕ) → 0 < length (refusedLine n)
 unfolding refusedLine

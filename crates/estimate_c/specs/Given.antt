@@ -13,9 +13,9 @@ use Rattle.recorder.specs.declared.Counted.the-variants.{Blocks, Refused as Ref
 use Rattle.recorder.specs.Calls.{ReadLeft, CountLeft}
 use Rattle.nightly.specs.declared.Built.{Built}
 use Rattle.nightly.specs.declared.Built.the-variants.{Report as ReportOf, Refused as RefusedBuild}
-use Rattle.nightly.specs.declared.Report.{Report}
+use Rattle.night_rows.specs.declared.Report.{Report}
 use Rattle.nightly.specs.Call.{BuildLeft}
-use Rattle.text.specs.Rooms.{Rooms, NumbersWritten, TextWritten}
+use Rattle.printed.specs.Rooms.{Rooms, NumbersWritten, TextWritten}
 use Rattle.given.specs.Answers.{OutcomeGiven, outcomeGiven, ValueGiven, countGiven, ReadingGiven, readingGiven, SizesGiven, sizesGiven, bytesOf}
 
 -- ---- the graph call: 0, or the refusal's number; how many states and how many units set aside; the two rooms

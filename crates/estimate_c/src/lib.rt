@@ -47,7 +47,7 @@ ghost use Rattle.listing.specs.Call.{afterExpanding};
 ghost use Rattle.estimate.specs.Call.{analysed, analysedPaired};
 ghost use Rattle.recorder.specs.Calls.{traceRead, traceListed, traceWritten};
 ghost use Rattle.nightly.specs.Call.{afterBuild};
-ghost use Rattle.text.specs.Rooms.{afterNumbers, afterText, afterCyclesOfNumbers, afterCyclesOfText};
+ghost use Rattle.printed.specs.Rooms.{afterNumbers, afterText, afterCyclesOfNumbers, afterCyclesOfText};
 ghost use Rattle.given.specs.Answers.{cacheGiven, amountGiven, countGiven, timeGiven};
 ghost use Rattle.estimate_c.specs.Given.{graphGiven, listingGiven, lengthGiven, spreadGiven, readGiven, countedGiven, numbersGiven, textGiven, yesGiven, nightlyGiven};
 

@@ -19,7 +19,7 @@ use Rattle.listing.proofs.Sizes.{edges-by-nodes}
 use Rattle.listing.proofs.Edges.{node-count}
 use Rattle.listing.proofs.Shows.{flat-long}
 use Rattle.listing.proofs.Calls.{Expanded, checked, graph-nodes, graph-accesses, graph-edges}
-use Rattle.parts.specs.Parts.{trackedPart}
+use Rattle.curve_numbers.specs.Parts.{trackedPart}
 use Rattle.writing.specs.declared.Written.the-variants.{Bytes, NoRoom}
 use Rattle.writing.specs.Put.{Put}
 use Rattle.writing.specs.Writing.{refusedLine}

@@ -24,7 +24,7 @@ use Rattle.listing.specs.Call.{listingReasons}
 use Rattle.listing.proofs.Reading.{form}
 use Rattle.listing.proofs.Calls.{Checked, checked, is-listing}
 use Rattle.listing.proofs.Blocks.{accesses-listed, lengths-most, edges-most}
-use Rattle.parts.specs.Parts.{plain, Part, counted, trackedPart, runsPart, accessesPart, edgesPart, complete, inputFrom}
+use Rattle.curve_numbers.specs.Parts.{plain, Part, counted, trackedPart, runsPart, accessesPart, edgesPart, complete, inputFrom}
 use Rattle.writing.specs.Writing.{decimal, numbersLine}
 use Rattle.writing.specs.Told.{ofText}
 use Rattle.writing.proofs.ReadBack.{numbers-read, numbers-formed, line-words, line-short}

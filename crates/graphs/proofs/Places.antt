@@ -8,9 +8,9 @@ use native.Mathlib.Omega.{arith}
 use borrow.Author.Tests.{leb-true, leb-false, le-leb, eq-eqb, ne-eqb}
 use lib.Dec.{eqb, leb}
 use lib.ListN.{length, take, drop, length-drop}
-use Rattle.parts.specs.Parts.{Part, counted, trackedPart}
-use Rattle.parts.specs.Places.{endOf}
-use Rattle.parts.proofs.Places.{e₁, e₂, counts-within, end-is, part-short, tracked-is, runs-is}
+use Rattle.curve_numbers.specs.Parts.{Part, counted, trackedPart}
+use Rattle.curve_numbers.specs.Places.{endOf}
+use Rattle.curve_numbers.proofs.Places.{e₁, e₂, counts-within, end-is, part-short, tracked-is, runs-is}
 use Rattle.graphs.specs.Listings.{tokensPart, listingComplete}
 
 -- the tracked blocks end at a, and the tokens with the list

@@ -10,7 +10,7 @@ use Rattle.rules.specs.Answers.{numberOf, first}
 use Rattle.listing.specs.Reading.{listingOf, listingIn}
 use Rattle.listing.specs.Expansion.{Graph, graphOf, lengths, accesses, flat}
 use Rattle.listing.specs.Call.{listingReasons}
-use Rattle.parts.specs.Parts.{Part, counted, trackedPart}
+use Rattle.curve_numbers.specs.Parts.{Part, counted, trackedPart}
 use Rattle.writing.specs.Writing.{refusedLine, numbersLine}
 use Rattle.writing.specs.Told.{told, ofText, accepts, textWorked}
 

@@ -1,8 +1,8 @@
 // From the text of a listing to the curve program's input: the listing expanded, and the lines that its graph gives, in rooms that the caller lends.
 use basics::clear_numbers;
+use curve_numbers::end_of;
 use listing::Expansion;
 use listing::expand;
-use parts::end_of;
 use reading::Read;
 use reading::read_numbers;
 use writing::Written;

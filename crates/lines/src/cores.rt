@@ -1,7 +1,7 @@
 // The curves in cycles, core after core, from the units at each miss count.
 use crate::counts::put_lines;
+use core_list::core_at;
 use rules::Core;
-use rules::core_at;
 use writing::put_byte;
 use writing::put_named;
 ghost use Prim.Native.Nat.{_≤_, _<_};

@@ -21,7 +21,7 @@ use Rattle.rules.specs.Refusals.{verdict}
 use Rattle.rules.specs.Shape.{Listed, Aimed}
 use Rattle.rules.proofs.Sets.{aimed}
 use Rattle.rules.proofs.Graph.{offset-next}
-use Rattle.refusals.proofs.Reasons.{edges-next, edges-end}
+use Rattle.graph_check.proofs.Checks.{edges-next, edges-end}
 use Rattle.tables.specs.Aim.{inWord, aimedAt}
 use Rattle.tables.proofs.Masks.{aimed-so, with-listed}
 use Rattle.words.proofs.Handing.{zeros-rest}

@@ -17,7 +17,7 @@ use Rattle.rules.specs.Longest.{mostOf, longestTo, longest, longestAnswer, upTo
 use Rattle.rules.proofs.Refusals.{Checked}
 use Rattle.rules.proofs.Graph.{offset-most}
 use Rattle.rules.proofs.Longest.{upTo-most}
-use Rattle.refusals.proofs.Reasons.{edges-next, edges-end}
+use Rattle.graph_check.proofs.Checks.{edges-next, edges-end}
 use Rattle.longest.specs.Graph.{graphOf}
 
 -- ---- through the edges: the most so far and the most of the edges that are left give the whole, w

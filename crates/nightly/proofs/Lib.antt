@@ -1,6 +1,4 @@
--- The list cut into graphs
-pub mod Cutting
--- a graph's row
+-- A graph's row
 pub mod OneRow
 -- the report
 pub mod Reporting

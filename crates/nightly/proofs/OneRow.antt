@@ -1,12 +1,12 @@
 -- A graph's row: what is answered is the definition's, and no graph sets more than WHOLE aside.
 use mathlib.Core.Path.{_≡_, refl, sym, ap, ap₂, _∙_}
 use mathlib.Core.Bool.{Bool, true, false, cond}
-use mathlib.Core.List.{List, [], _∷_}
+use mathlib.Core.List.{List}
 use Prim.Native.Nat.{ℕ, _≤_, _<_}
 use native.Mathlib.Omega.{arith}
 use borrow.Author.Tests.{le-leb, lt-leb}
 use lib.Dec.{leb}
-use lib.ListN.{length, set}
+use lib.ListN.{length}
 use Rattle.rules.specs.declared.Count.{Count}
 use Rattle.rules.specs.declared.Count.the-variants.{Misses, Refused as RefusedCount}
 use Rattle.rules.specs.declared.Outcome.{Outcome}
@@ -28,10 +28,10 @@ use Rattle.rules.specs.Refusals.{verdict, answered, outcome}
 use Rattle.rules.proofs.Graph.{aside-worked}
 use Rattle.rules.proofs.Questions.{budget-answered}
 use Rattle.rules.proofs.Refusals.{numbered}
-use Rattle.parts.specs.Parts.{plain, complete, inputFrom}
+use Rattle.curve_numbers.specs.Parts.{plain, complete, inputFrom}
 use Rattle.parts.specs.Call.{numbersOutcome}
-use Rattle.nightly.specs.declared.Row.{Row}
-use Rattle.nightly.specs.Rows.{refusedRow, rowFor, rowOf, rowWords}
+use Rattle.night_rows.specs.Rows.{numberRow, refusedRow}
+use Rattle.nightly.specs.Rows.{rowFor, rowOf}
 
 -- ---- the smallest budget of a table
 
@@ -58,9 +58,9 @@ module _ (u : ℕ) (ns : List ℕ) where
     row-few = sym (ap (λ (b : Bool). cond b (rowFor u (inputFrom plain ns) (numbersOutcome plain ns)) (refusedRow Text)) (le-leb (length ns) 16384 few))
 
     pub row-refused : (r : Outcome) → r ≡ numbersOutcome plain ns → (why : Refusal) → r ≡ RefusedOutcome why → (n : ℕ) → n ≡ numberOf why
-        → record { refusal = n; states = 0; aside = 0; longest = 0; budget = 0 } ≡ rowOf u ns
+        → numberRow n ≡ rowOf u ns
     row-refused r e why f n g =
-        ap (λ (m : ℕ). record { refusal = m; states = 0; aside = 0; longest = 0; budget = 0 }) g
+        ap numberRow g
         ∙ ap (rowFor u (inputFrom plain ns)) (sym f ∙ e)
         ∙ row-few
 
@@ -86,15 +86,3 @@ aside-most u ns = go (leb (length ns) 16384) (complete ns)
     go true true = most-answered u (inputFrom plain ns) (verdict (inputFrom plain ns))
     go true false = omega arith
     go false c = omega arith
-
--- ---- a row in words
-
-pub row-put : (ws : List ℕ) (r : Row) → length ws ≡ 5
-    → set (set (set (set (set ws 0 (r .refusal)) 1 (r .states)) 2 (r .aside)) 3 (r .longest)) 4 (r .budget) ≡ rowWords r
-row-put [] r h = absurd (omega (arith, h))
-row-put (a ∷ []) r h = absurd (omega (arith, h))
-row-put (a ∷ b ∷ []) r h = absurd (omega (arith, h))
-row-put (a ∷ b ∷ c ∷ []) r h = absurd (omega (arith, h))
-row-put (a ∷ b ∷ c ∷ d ∷ []) r h = absurd (omega (arith, h))
-row-put (a ∷ b ∷ c ∷ d ∷ e ∷ []) r h = refl
-row-put (a ∷ b ∷ c ∷ d ∷ e ∷ f ∷ ws) r h = absurd (omega (arith, h))

@@ -19,14 +19,15 @@ use Rattle.rules.specs.declared.Outcome.the-variants.{Refused as RefusedOutcome
 use Rattle.rules.specs.Contents.{once}
 use Rattle.rules.specs.Input.{Input, nodes}
 use Rattle.rules.specs.Refusals.{outside, edgesKept, reasons, verdict, answered, outcome}
-use Rattle.parts.specs.Parts.{plain, complete, inputFrom}
+use Rattle.curve_numbers.specs.Parts.{plain, complete, inputFrom}
 use Rattle.parts.specs.Call.{numbersOutcome}
-use Rattle.nightly.specs.declared.Row.{Row}
-use Rattle.nightly.specs.Graphs.{cut, graphsIn}
-use Rattle.nightly.specs.Rows.{refusedRow, rowFor, rowOf}
-use Rattle.nightly.specs.Report.{oneOf, under, reportOf}
+use Rattle.night_rows.specs.declared.Row.{Row}
+use Rattle.night_rows.specs.Graphs.{cut, graphsIn}
+use Rattle.night_rows.specs.Rows.{refusedRow}
+use Rattle.nightly.specs.Rows.{rowFor, rowOf}
+use Rattle.night_rows.specs.Report.{oneOf, under, reportOf}
 use Rattle.nightly.specs.Call.{rowsOf}
-use Rattle.nightly.proofs.Cutting.{cut-few}
+use Rattle.night_rows.proofs.Cutting.{cut-few}
 use Rattle.nightly.proofs.Reporting.{sum-most}
 
 -- ---- each row is that of the graph by itself

@@ -6,17 +6,20 @@ use Prim.Native.Nat.{ℕ, suc, _+_, _-_, _*_, _≤_, _<_}
 use native.Mathlib.Omega.{arith}
 use borrow.Author.Tests.{leb-true, leb-false}
 use lib.Dec.{leb}
-use lib.ListN.{length, take, drop, length-append, length-take}
+use lib.ListN.{length, take, drop, length-append, length-take, length-drop}
 use lib.Seq.{take-at, drop-drop}
-use Rattle.parts.specs.Places.{endOf}
-use Rattle.nightly.specs.declared.Report.{Report}
-use Rattle.nightly.specs.declared.Row.{Row}
-use Rattle.nightly.specs.Graphs.{Cut, cut, exactly, graphsIn}
-use Rattle.nightly.specs.Rows.{rowOf, rowWords, rowsWords}
-use Rattle.nightly.specs.Report.{reportOf, withRow}
+use Rattle.curve_numbers.specs.Places.{endOf}
+use Rattle.night_rows.specs.declared.Report.{Report}
+use Rattle.night_rows.specs.declared.Row.{Row}
+use Rattle.night_rows.specs.Graphs.{Cut, cut, exactly, graphsIn}
+use Rattle.night_rows.specs.Rows.{rowWords, rowsWords, rowPut}
+use Rattle.night_rows.proofs.Rows.{five-put}
+use Rattle.nightly.specs.Rows.{rowOf}
+use Rattle.night_rows.specs.Report.{reportOf, withRow}
 use Rattle.nightly.specs.Call.{rowsOf}
-use Rattle.nightly.proofs.Cutting.{cut-end, cut-few, cut-full, next-whole, next-short}
-use Rattle.nightly.proofs.Reporting.{together, nothing, none-together, together-none, together-row, counts-small, aside-small}
+use Rattle.night_rows.proofs.Cutting.{cut-end, cut-few, cut-full, next-whole, next-short}
+use Rattle.night_rows.proofs.Reporting.{together, nothing, none-together, together-none, together-row}
+use Rattle.nightly.proofs.Reporting.{counts-small, aside-small}
 
 -- k graphs are worked: their report is a, and their rows stand at the front of the words ws; the graphs of the cut c are not worked yet
 pub record Halfway (u : ℕ) (ns : List ℕ) (k : ℕ) (a : Report) (ws : List ℕ) (c : Cut) : Type 0 where
@@ -33,12 +36,14 @@ row-behind k ws ws′ r g long =
     ap (take ((k + 1) * 5)) (g ∙ sym (append-assoc (take (k * 5) ws) (rowWords r) (drop (k * 5 + 5) ws)))
     ∙ take-at (take (k * 5) ws ++ rowWords r) (drop (k * 5 + 5) ws) ((k + 1) * 5) front
 
--- five words written into a part of the room stand there in the whole of it
-pub row-stands : (k : ℕ) (ws five : List ℕ) (r : Row) → five ≡ rowWords r
+-- a row that is put into a part of the room stands there in the whole of it
+pub row-stands : (k : ℕ) (ws five : List ℕ) (r : Row) → k * 5 + 5 ≤ length ws → five ≡ rowPut r (take (k * 5 + 5 - k * 5) (drop (k * 5) ws))
     → take (k * 5) ws ++ (five ++ drop (k * 5 + 5 - k * 5) (drop (k * 5) ws)) ≡ take (k * 5) ws ++ (rowWords r ++ drop (k * 5 + 5) ws)
-row-stands k ws five r e =
+row-stands k ws five r long e =
+    let part = take (k * 5 + 5 - k * 5) (drop (k * 5) ws) in
     let same : k * 5 + (k * 5 + 5 - k * 5) ≡ k * 5 + 5 = omega arith in
-    ap₂ (λ (us vs : List ℕ). take (k * 5) ws ++ (us ++ vs)) e (drop-drop (k * 5 + 5 - k * 5) (k * 5) ws ∙ ap (λ (n : ℕ). drop n ws) same)
+    let long-part : length part ≡ 5 = omega (arith, length-take (k * 5 + 5 - k * 5) (drop (k * 5) ws), length-drop (k * 5) ws, long) in
+    ap₂ (λ (us vs : List ℕ). take (k * 5) ws ++ (us ++ vs)) (e ∙ five-put part r long-part) (drop-drop (k * 5 + 5 - k * 5) (k * 5) ws ∙ ap (λ (n : ℕ). drop n ws) same)
 
 -- ---- at the start, and in the end
 

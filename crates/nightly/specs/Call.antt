@@ -1,28 +1,22 @@
 -- What the call leaves: its answer, the rows, and the working room.
-use mathlib.Core.Bool.{_||_, not}
-use mathlib.Core.List.{List, [], _∷_, _++_, map}
-use Prim.Native.Nat.{ℕ, _-_, _*_, _/_}
-use lib.Dec.{ltb}
+use mathlib.Core.List.{List, _++_, map}
+use Prim.Native.Nat.{ℕ, _-_, _*_}
 use lib.ListN.{length, replicate}
-use Rattle.rules.specs.declared.Refusal.the-variants.{Nightly, Room}
 use Rattle.rules.specs.declared.Verdict.{Verdict}
 use Rattle.rules.specs.declared.Verdict.the-variants.{Accepted, Refused}
-use Rattle.rules.specs.Answers.{Reason, when, first}
+use Rattle.rules.specs.Answers.{first}
 use Rattle.nightly.specs.declared.Built.{Built}
 use Rattle.nightly.specs.declared.Built.the-variants.{Report as ReportOf, Refused as RefusedBuild}
-use Rattle.nightly.specs.declared.Row.{Row}
-use Rattle.nightly.specs.Graphs.{exactly, graphsIn}
-use Rattle.nightly.specs.Rows.{rowOf, rowsWords}
-use Rattle.nightly.specs.Report.{reportOf}
+use Rattle.night_rows.specs.declared.Row.{Row}
+use Rattle.night_rows.specs.Graphs.{graphsIn}
+use Rattle.night_rows.specs.Reasons.{buildReasons}
+use Rattle.night_rows.specs.Rows.{rowsWords}
+use Rattle.night_rows.specs.Report.{reportOf}
+use Rattle.nightly.specs.Rows.{rowOf}
 
 -- the rows of a list's graphs, for the allowance u
 abbrev pub rowsOf : ℕ → List ℕ → List Row
 rowsOf u ns = map (rowOf u) (graphsIn ns)
-
--- 20, then 6, of rooms with five words to a row and to a state
-abbrev pub buildReasons : List ℕ → ℕ → ℕ → List Reason
-buildReasons ns rows work =
-    when (not (exactly ns) || ltb (rows / 5) (length (graphsIn ns))) Nightly ∷ when (ltb (work / 5) 5248) Room ∷ []
 
 -- the answer, and both rooms then
 pub record BuildLeft : Type 0 where

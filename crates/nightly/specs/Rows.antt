@@ -1,25 +1,20 @@
 -- A graph's row: by the definitions of the graph call, the longest path and the smallest budget, of the graph by itself.
 use mathlib.Core.Bool.{cond}
-use mathlib.Core.List.{List, [], _∷_}
+use mathlib.Core.List.{List}
 use Prim.Native.Nat.{ℕ}
 use lib.Dec.{leb}
 use lib.ListN.{length}
 use Rattle.rules.specs.declared.Outcome.{Outcome}
 use Rattle.rules.specs.declared.Outcome.the-variants.{Finished, Refused as RefusedOutcome}
-use Rattle.rules.specs.declared.Refusal.{Refusal}
 use Rattle.rules.specs.declared.Refusal.the-variants.{Text}
-use Rattle.rules.specs.Answers.{numberOf}
 use Rattle.rules.specs.Input.{Input}
 use Rattle.rules.specs.Graph.{finished}
 use Rattle.rules.specs.Longest.{longest}
 use Rattle.rules.specs.Questions.{smallestBudget}
-use Rattle.parts.specs.Parts.{plain, inputFrom}
+use Rattle.curve_numbers.specs.Parts.{plain, inputFrom}
 use Rattle.parts.specs.Call.{numbersOutcome}
-use Rattle.nightly.specs.declared.Row.{Row}
-
--- a refused graph's row: its number, and zeros
-abbrev pub refusedRow : Refusal → Row
-refusedRow r = record { refusal = numberOf r; states = 0; aside = 0; longest = 0; budget = 0 }
+use Rattle.night_rows.specs.declared.Row.{Row}
+use Rattle.night_rows.specs.Rows.{refusedRow}
 
 -- the row of a graph i whose call had this outcome, for the allowance u: 0, the states, the set-aside count, the longest path, the smallest budget; or a refusal's
 abbrev pub rowFor : ℕ → Input → Outcome → Row
@@ -29,12 +24,3 @@ rowFor u i (RefusedOutcome r) = refusedRow r
 -- the row of a graph's numbers, on document 01's cache: 9 for more than 16,384 of them, a missing one or one left over; then as the graph call answers
 unfoldable pub rowOf : ℕ → List ℕ → Row
 rowOf u ns = cond (leb (length ns) 16384) (rowFor u (inputFrom plain ns) (numbersOutcome plain ns)) (refusedRow Text)
-
--- a row in words
-abbrev pub rowWords : Row → List ℕ
-rowWords r = r .refusal ∷ r .states ∷ r .aside ∷ r .longest ∷ r .budget ∷ []
-
--- rows in words, five each
-unfoldable pub rowsWords : List Row → List ℕ
-rowsWords [] = []
-rowsWords (r ∷ rs) = r .refusal ∷ r .states ∷ r .aside ∷ r .longest ∷ r .budget ∷ rowsWords rs

@@ -1,11 +1,11 @@
 // The report on all graphs.
-use crate::Report;
-use crate::Row;
+use night_rows::Report;
+use night_rows::Row;
 ghost use mathlib.Core.Path.{_≡_};
 ghost use mathlib.Core.Bool.{cond};
 ghost use Prim.Native.Nat.{_+_, _≤_};
 ghost use lib.Dec.{eqb};
-ghost use Rattle.nightly.specs.Report.{withRow};
+ghost use Rattle.night_rows.specs.Report.{withRow};
 
 // The count, and one more where the refusal has that number.
 fn one_more(count: u64, refusal: u64, number: u64) -> u64

@@ -1,38 +1,20 @@
 // The graphs of a list, one after the other.
-use crate::Report;
-use crate::Row;
 use crate::counts::tally;
-use crate::rows::put_row;
 use crate::rows::row_of;
-use parts::end_of;
+use curve_numbers::end_of;
+use night_rows::Report;
+use night_rows::Row;
+use night_rows::put_row;
 ghost use mathlib.Core.Path.{_≡_};
 ghost use mathlib.Core.Bool.{true};
 ghost use mathlib.Core.List.{_++_};
 ghost use Prim.Native.Nat.{_+_, _*_, _≤_};
 ghost use lib.ListN.{length, take, drop};
-ghost use Rattle.nightly.specs.Graphs.{countOf, exactly, graphsIn};
-ghost use Rattle.nightly.specs.Rows.{rowOf, rowWords, rowsWords};
-ghost use Rattle.nightly.specs.Report.{reportOf};
+ghost use Rattle.night_rows.specs.Graphs.{exactly, graphsIn};
+ghost use Rattle.night_rows.specs.Rows.{rowWords, rowsWords};
+ghost use Rattle.night_rows.specs.Report.{reportOf};
+ghost use Rattle.nightly.specs.Rows.{rowOf};
 ghost use Rattle.nightly.specs.Call.{rowsOf};
-
-// How many graphs the list has, each a count and so many numbers; 257 where it has more than 256, or they do not use it up exactly.
-pub(crate) fn count_graphs(numbers: &[u32]) -> usize
-    ensures { λ r. ⌜ r ≡ countOf (now (numbers .entry)) ⌝ }
-{
-    let mut at: usize = 0;
-    let mut count: usize = 0;
-    while at < numbers.len() {
-        if count == 256 {
-            return 257;
-        }
-        at = end_of(numbers, at, 1);
-        count += 1;
-    }
-    if at == numbers.len() {
-        return count;
-    }
-    257
-}
 
 // The row of a graph's numbers, written as row `at`.
 pub(crate) fn work_graph(

@@ -1,7 +1,10 @@
 // The nightly build in one call: document 02, request 13/13.
-use crate::graphs::count_graphs;
 use crate::graphs::work_graphs;
+use night_rows::Report;
+use night_rows::count_graphs;
+use night_rows::judge_list;
 use rules::Refusal;
+use rules::Verdict;
 use words::clear;
 ghost use mathlib.Core.Path.{_≡_};
 ghost use mathlib.Core.Bool.{true};
@@ -9,34 +12,12 @@ ghost use Prim.Native.Nat.{_*_, _≤_};
 ghost use lib.ListN.{length};
 ghost use Rattle.rules.specs.declared.Verdict.the-variants.{Accepted};
 ghost use Rattle.nightly.specs.declared.Built.the-variants.{Report as ReportOf};
-ghost use Rattle.nightly.specs.Graphs.{exactly, graphsIn};
+ghost use Rattle.night_rows.specs.Graphs.{exactly, graphsIn};
 ghost use Rattle.nightly.specs.Call.{rowsOf, builds, afterBuild};
 
 mod counts;
 mod graphs;
 mod rows;
-
-// A row: 0 or the number of a refusal, how many states the finished table has, the set-aside count, the accesses of the longest path, and the smallest budget for the
-// allowance.
-pub struct Row {
-    pub refusal: u64,
-    pub states: u64,
-    pub aside: u64,
-    pub longest: u64,
-    pub budget: u64,
-}
-
-// How many graphs were accepted, how many refused under each of 9, 1, 2, 3, 4 and 5, and the sum of the set-aside counts.
-pub struct Report {
-    pub accepted: u64,
-    pub text: u64,
-    pub ways: u64,
-    pub limit: u64,
-    pub tracked: u64,
-    pub accesses: u64,
-    pub graph: u64,
-    pub aside: u64,
-}
 
 // What the nightly build answers: the report on all graphs, or a refusal.
 pub enum Built {
@@ -49,17 +30,13 @@ pub enum Built {
 pub fn build(numbers: &[u32], allowance: u64, rows: &mut [u64], work: &mut [u64]) -> Built
     ensures { λ r. ⌜ record { answer = r; rows = now (rows .exit); work = now (work .exit) } ≡ afterBuild (now (numbers .entry)) allowance (now (rows .entry)) (now (work .entry)) ⌝ }
 {
-    let count = count_graphs(numbers);
-    if 256 < count {
-        return Built::Refused(Refusal::Nightly);
+    match judge_list(numbers, rows.len(), work.len()) {
+        Verdict::Refused(why) => Built::Refused(why),
+        Verdict::Accepted => {
+            let count = count_graphs(numbers);
+            Built::Report(build_all(numbers, allowance, rows, count, work))
+        }
     }
-    if rows.len() / 5 < count {
-        return Built::Refused(Refusal::Nightly);
-    }
-    if work.len() / 5 < 5248 {
-        return Built::Refused(Refusal::Room);
-    }
-    Built::Report(build_all(numbers, allowance, rows, count, work))
 }
 
 // All rows, with zeros behind them, and their report, in rooms that are large enough. The table of each graph stands in an array on the way.

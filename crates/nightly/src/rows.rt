@@ -1,6 +1,7 @@
 // A graph's row.
-use crate::Row;
-use parts::Choice;
+use curve_numbers::Choice;
+use night_rows::Row;
+use night_rows::refused_row;
 use parts::analyse_numbers;
 use parts::longest_of_numbers;
 use questions::smallest_budget_in;
@@ -17,8 +18,8 @@ ghost use Rattle.rules.specs.Longest.{longest};
 ghost use Rattle.rules.specs.Questions.{isTable, smallestBudget};
 ghost use Rattle.rules.specs.Refusals.{verdict};
 ghost use Rattle.words.specs.Tables.{tableOf};
-ghost use Rattle.parts.specs.Parts.{plain, complete, inputFrom};
-ghost use Rattle.nightly.specs.Rows.{rowOf, rowWords};
+ghost use Rattle.curve_numbers.specs.Parts.{plain, complete, inputFrom};
+ghost use Rattle.nightly.specs.Rows.{rowOf};
 
 // Document 01's cache: one set, the first revision, found empty.
 fn plain_choice() -> Choice
@@ -28,19 +29,6 @@ fn plain_choice() -> Choice
         sets: 1,
         revision: 1,
         start: Start::Cold,
-    }
-}
-
-// The row of a graph that is refused with this number.
-fn refused(number: u64) -> Row
-    ensures { λ r. ⌜ r ≡ record { refusal = number; states = 0; aside = 0; longest = 0; budget = 0 } ⌝ }
-{
-    Row {
-        refusal: number,
-        states: 0,
-        aside: 0,
-        longest: 0,
-        budget: 0,
     }
 }
 
@@ -72,10 +60,10 @@ pub(crate) fn row_of(numbers: &[u32], allowance: u64, result: &mut [u64], work: 
     ensures { λ r. ⌜ r ≡ rowOf allowance (now (numbers .entry)) ⌝ }
 {
     if 16384 < numbers.len() {
-        return refused(9);
+        return refused_row(9);
     }
     match analyse_numbers(plain_choice(), numbers, result, work) {
-        Outcome::Refused(why) => refused(why.number()),
+        Outcome::Refused(why) => refused_row(why.number()),
         Outcome::Finished(states, aside) => {
             let longest = longest_of(numbers);
             let budget = budget_of(result, states, allowance);
@@ -88,16 +76,4 @@ pub(crate) fn row_of(numbers: &[u32], allowance: u64, result: &mut [u64], work: 
             }
         }
     }
-}
-
-// The row in five words.
-pub(crate) fn put_row(room: &mut [u64], row: Row)
-    requires { ⌜ length (now room) ≡ 5 ⌝ }
-    ensures { λ _. ⌜ now (room .exit) ≡ rowWords row ⌝ }
-{
-    room[0] = row.refusal;
-    room[1] = row.states;
-    room[2] = row.aside;
-    room[3] = row.longest;
-    room[4] = row.budget;
 }

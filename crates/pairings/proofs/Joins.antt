@@ -9,7 +9,7 @@ use lib.Dec.{eqb}
 use lib.ListN.{length, getD, drop}
 use borrow.Author.Tests.{eq-eqb, ne-eqb, eqb-true}
 use Rattle.rules.specs.Input.{Edge, edgesOf, predecessors, joinsAt, joinsTo}
-use Rattle.refusals.proofs.Reasons.{edges-next, edges-end}
+use Rattle.graph_check.proofs.Checks.{edges-next, edges-end}
 
 -- ---- the edges to a node: those so far and those that are left are all, w
 

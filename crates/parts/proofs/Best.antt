@@ -7,10 +7,10 @@ use lib.ListN.{length, getD, take, drop}
 use Rattle.rules.specs.declared.BestOutcome.the-variants.{Refused as RefusedBest}
 use Rattle.rules.specs.declared.Refusal.the-variants.{Text}
 use Rattle.best.specs.Call.{After, bestAnalysed}
-use Rattle.parts.specs.Parts.{trackedPart, runsPart, accessesPart, edgesPart, complete}
-use Rattle.parts.specs.Places.{Ends}
+use Rattle.curve_numbers.specs.Parts.{trackedPart, runsPart, accessesPart, edgesPart, complete}
+use Rattle.curve_numbers.specs.Places.{Ends}
 use Rattle.parts.specs.Best.{bestNumbersLeft}
-use Rattle.parts.proofs.Places.{is-complete, parts-are}
+use Rattle.curve_numbers.proofs.Places.{is-complete, parts-are}
 
 module _ (Z v : ℕ) (ns rs ws : List ℕ) where
   -- what the call leaves for these parts

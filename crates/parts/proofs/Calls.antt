@@ -26,11 +26,11 @@ use Rattle.rules.proofs.Questions.{finished-is-table}
 use Rattle.words.specs.Tables.{tableOf}
 use Rattle.estimate.specs.Call.{After, analysed}
 use Rattle.estimate.proofs.Finished.{call-answers, call-finishes, call-clears, call-refuses}
-use Rattle.parts.specs.declared.Choice.{Choice}
-use Rattle.parts.specs.Parts.{cacheFrom, trackedPart, runsPart, accessesPart, edgesPart, complete, inputFrom}
-use Rattle.parts.specs.Places.{Ends}
+use Rattle.curve_numbers.specs.declared.Choice.{Choice}
+use Rattle.curve_numbers.specs.Parts.{cacheFrom, trackedPart, runsPart, accessesPart, edgesPart, complete, inputFrom}
+use Rattle.curve_numbers.specs.Places.{Ends}
 use Rattle.parts.specs.Call.{numbersLeft, numbersOutcome, numbersLongest}
-use Rattle.parts.proofs.Places.{is-complete, parts-are}
+use Rattle.curve_numbers.proofs.Places.{is-complete, parts-are}
 
 -- ---- complete, or not
 

@@ -1,6 +1,4 @@
--- Where the parts of a list of numbers end
-pub mod Places
--- what the graph call and the longest path answer
+-- What the graph call and the longest path answer
 pub mod Calls
 -- The best case of a list of numbers
 pub mod Best

@@ -6,7 +6,7 @@ use lib.ListN.{getD}
 use Rattle.rules.specs.declared.BestOutcome.the-variants.{Refused as RefusedBest}
 use Rattle.rules.specs.declared.Refusal.the-variants.{Text}
 use Rattle.best.specs.Call.{After, bestAnalysed}
-use Rattle.parts.specs.Parts.{trackedPart, runsPart, accessesPart, edgesPart, complete}
+use Rattle.curve_numbers.specs.Parts.{trackedPart, runsPart, accessesPart, edgesPart, complete}
 
 -- what the call leaves in its two rooms, with Z sets and revision v; numbers that are not complete leave both as they were
 unfoldable pub bestNumbersLeft : ℕ → ℕ → List ℕ → List ℕ → List ℕ → After

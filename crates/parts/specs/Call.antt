@@ -11,8 +11,8 @@ use Rattle.rules.specs.declared.Refusal.the-variants.{Text}
 use Rattle.rules.specs.Longest.{longestAnswer}
 use Rattle.rules.specs.Refusals.{outcome}
 use Rattle.estimate.specs.Call.{After, analysed}
-use Rattle.parts.specs.declared.Choice.{Choice}
-use Rattle.parts.specs.Parts.{cacheFrom, trackedPart, runsPart, accessesPart, edgesPart, complete, inputFrom}
+use Rattle.curve_numbers.specs.declared.Choice.{Choice}
+use Rattle.curve_numbers.specs.Parts.{cacheFrom, trackedPart, runsPart, accessesPart, edgesPart, complete, inputFrom}
 
 -- what the graph call leaves in its two rooms; numbers that are not complete leave both as they were
 unfoldable pub numbersLeft : Choice → List ℕ → List ℕ → List ℕ → After

@@ -1,8 +1,4 @@
--- What the numbers mean, in order
-pub mod Parts
--- where the parts end
-pub mod Places
--- the graph call and the longest path of what they mean
+-- The graph call and the longest path of what the numbers mean
 pub mod Call
 -- The best case of a list of numbers
 pub mod Best

@@ -1,5 +1,7 @@
-// What a list of numbers in the curve's order means: where its parts end, and the graph call and the longest path of what it means.
+// The graph call and the longest path of what a list of numbers in the curve's order means.
 use best::analyse_best;
+use curve_numbers::Choice;
+use curve_numbers::end_of;
 use estimate::analyse;
 use longest::longest_path;
 use rules::BestOutcome;
@@ -7,34 +9,12 @@ use rules::Cache;
 use rules::Length;
 use rules::Outcome;
 use rules::Refusal;
-use rules::Start;
 ghost use mathlib.Core.Path.{_≡_};
 ghost use Prim.Native.Nat.{_≤_, _<_};
 ghost use lib.ListN.{length};
-ghost use Rattle.parts.specs.Places.{endOf, Ends};
+ghost use Rattle.curve_numbers.specs.Places.{Ends};
 ghost use Rattle.parts.specs.Best.{bestNumbersLeft};
 ghost use Rattle.parts.specs.Call.{numbersLeft, numbersLongest};
-
-// What is chosen of a cache beside its ways: its sets, its revision, and how it is found.
-pub struct Choice {
-    pub sets: u32,
-    pub revision: u32,
-    pub start: Start,
-}
-
-// Where the part ends whose count stands at place `at`, with `width` numbers for each that it counts; past the end where it is cut short.
-pub fn end_of(numbers: &[u32], at: usize, width: u8) -> usize
-    ensures { λ r. ⌜ r ≡ endOf width (now (numbers .entry)) at ⌝ }
-{
-    if numbers.len() <= at {
-        return numbers.len() + 1;
-    }
-    let end = at + 1 + numbers[at] as usize * width as usize;
-    if numbers.len() < end {
-        return numbers.len() + 1;
-    }
-    end
-}
 
 // The graph call for numbers that are complete: the tracked blocks end at `first`, the run lengths at `second`, the accesses at `third`.
 fn call(

@@ -2,13 +2,13 @@
 // its misses, and a cycle budget stands for a miss budget.
 use crate::sums::smallest;
 use crate::sums::units_above;
+use core_list::core_at;
 use cycle_check::judged;
 use rules::Amount;
 use rules::Core;
 use rules::Time;
 use rules::Units;
 use rules::Verdict;
-use rules::core_at;
 ghost use mathlib.Core.Path.{_≡_};
 ghost use Prim.Native.Nat.{_-_, _/_, _≤_, _<_};
 ghost use Rattle.rules.specs.declared.Verdict.the-variants.{Accepted};

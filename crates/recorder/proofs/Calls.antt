@@ -14,13 +14,13 @@ use Rattle.rules.specs.Answers.{first}
 use Rattle.rules.proofs.Refusals.{numbered}
 use Rattle.recorder.specs.declared.Reading.the-variants.{Accesses, Damaged, Refused as RefusedReading}
 use Rattle.recorder.specs.declared.Counted.the-variants.{Blocks, Refused as RefusedCount}
-use Rattle.recorder.specs.Blocks.{isSound}
+use Rattle.trace_blocks.specs.Blocks.{isSound}
 use Rattle.recorder.specs.Traces.{blocksOf, gathered, damageAt, said, damagedPlaces}
 use Rattle.recorder.specs.Written.{blocksFor, traceOf}
 use Rattle.recorder.specs.Fronts.{Front}
 use Rattle.recorder.specs.Calls.{readingSays, countedSays, traceReasons, zeroBeyond, ReadLeft, readLeaves, traceRead, CountLeft, countLeaves, traceListed, traceWritten}
 use Rattle.recorder.proofs.Traces.{length-blocks}
-use Rattle.recorder.proofs.Prefixes.{restFrom, withRest, cleared-rest}
+use Rattle.trace_blocks.proofs.Prefixes.{restFrom, withRest, cleared-rest}
 use Rattle.recorder.proofs.Fronts.{front-ends}
 
 -- ---- the first reason to refuse

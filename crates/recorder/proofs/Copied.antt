@@ -10,10 +10,10 @@ use lib.Dec.{eqb, leb}
 use lib.ListN.{length, set, take, drop, length-append}
 use lib.Seq.{getD-drop, drop-drop, length-take-le}
 use Rattle.basics.proofs.Bools.{and-left, and-right}
-use Rattle.recorder.specs.Blocks.{fourAt, fours, numberIn, countIn, accessesIn, unusedIn, allZero, checkIn, checkOf, isSound}
+use Rattle.trace_blocks.specs.Blocks.{fourAt, fours, numberIn, countIn, accessesIn, unusedIn, allZero, checkIn, checkOf, isSound}
 use Rattle.recorder.specs.Traces.{blocksOf, gathered, damageAt}
 use Rattle.recorder.specs.Fronts.{Front}
-use Rattle.recorder.proofs.Prefixes.{stored-next}
+use Rattle.trace_blocks.proofs.Prefixes.{stored-next}
 use Rattle.recorder.proofs.Traces.{lent, gathered-next}
 use Rattle.recorder.proofs.Fronts.{front-ends}
 

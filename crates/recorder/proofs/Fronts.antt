@@ -7,7 +7,7 @@ use native.Mathlib.Numerals.{add-one}
 use native.Mathlib.Omega.{arith}
 use lib.ListN.{length, set, take, length-set, length-append}
 use lib.Seq.{length-take-le, take-suc-set}
-use Rattle.recorder.specs.Blocks.{isSound}
+use Rattle.trace_blocks.specs.Blocks.{isSound}
 use Rattle.recorder.specs.Traces.{damageAt}
 use Rattle.recorder.specs.Fronts.{Front}
 

@@ -1,16 +1,10 @@
--- A list filled from the front
-pub mod Prefixes
--- Bytes weighed, and bytes that are all zero
-pub mod Bytes
--- A block judged
-pub mod Judged
 -- A trace, block by block
 pub mod Traces
 -- What stands at the front of a room
 pub mod Fronts
 -- The accesses of a block copied, and of a trace
 pub mod Copied
--- The bytes of a block stored, and of a trace
+-- The blocks of a trace stored
 pub mod Stored
 -- What a call leaves
 pub mod Calls

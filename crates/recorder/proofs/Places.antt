@@ -10,7 +10,7 @@ use borrow.Author.Tests.{lt-ltb}
 use lib.ListN.{length, getD, set, take, drop, length-set, length-drop}
 use lib.Seq.{getD-set-same, getD-set-other, take-set-le, take-set-lt, drop-set-lt, drop-set-add, getD-take, getD-drop, length-take-le}
 use Rattle.rules.specs.Ordered.{byNumber, rises}
-use Rattle.recorder.specs.Blocks.{isSound}
+use Rattle.trace_blocks.specs.Blocks.{isSound}
 use Rattle.recorder.specs.Traces.{blocksIn, blocksOf, gathered, damageAt, damagedPlaces}
 use Rattle.recorder.proofs.Traces.{length-blocks, block-in}
 use Rattle.recorder.proofs.OneByte.{one-byte}

@@ -13,7 +13,7 @@ use Rattle.rules.specs.Ordered.{byNumber, rises}
 use Rattle.rules.specs.declared.Verdict.the-variants.{Accepted}
 use Rattle.recorder.specs.declared.Reading.the-variants.{Accesses, Damaged}
 use Rattle.recorder.specs.declared.Counted.the-variants.{Blocks}
-use Rattle.recorder.specs.Blocks.{countIn, isSound}
+use Rattle.trace_blocks.specs.Blocks.{countIn, isSound}
 use Rattle.recorder.specs.Traces.{blocksOf, said, damagedPlaces}
 use Rattle.recorder.specs.Written.{blocksFor, traceOf}
 use Rattle.recorder.specs.Calls.{zeroBeyond, readLeaves, countLeaves, traceRead, traceListed, traceWritten}

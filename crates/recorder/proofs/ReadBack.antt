@@ -8,10 +8,11 @@ use native.Mathlib.Omega.{arith}
 use borrow.Author.Tests.{eq-eqb, le-leb}
 use lib.ListN.{length, getD, take, drop, replicate, length-append, length-take, length-drop, length-replicate, take-append-drop}
 use lib.Seq.{take-at, drop-at, drop-drop, getD-append-add}
-use Rattle.recorder.specs.Blocks.{pairAt, fourAt, fours, numberIn, countIn, accessesIn, unusedIn, checkIn, checkOf, allZero, isSound}
+use Rattle.trace_blocks.specs.Blocks.{pairAt, fourAt, fours, numberIn, countIn, accessesIn, unusedIn, checkIn, checkOf, allZero, isSound}
 use Rattle.recorder.specs.Traces.{blocksIn, blocksOf, gathered, saidAt, damageAt, said, damagedPlaces}
-use Rattle.recorder.specs.Written.{pairBytes, fourBytes, foursBytes, headOf, blockOf, blocksFor, traceFrom, traceOf}
-use Rattle.recorder.proofs.Stored.{length-fours-bytes, length-head, length-block}
+use Rattle.trace_blocks.specs.Written.{pairBytes, fourBytes, foursBytes, headOf, blockOf}
+use Rattle.recorder.specs.Written.{blocksFor, traceFrom, traceOf}
+use Rattle.trace_blocks.proofs.Stored.{length-fours-bytes, length-head, length-block}
 
 -- ---- numbers from their bytes
 

@@ -3,7 +3,7 @@ use mathlib.Core.Bool.{cond}
 use mathlib.Core.List.{List, [], _∷_, _++_}
 use Prim.Native.Nat.{ℕ, zero, suc, _/_}
 use lib.ListN.{length, take, drop}
-use Rattle.recorder.specs.Blocks.{accessesIn, isSound}
+use Rattle.trace_blocks.specs.Blocks.{accessesIn, isSound}
 
 -- the first n blocks of a trace, 512 bytes each
 unfoldable pub blocksIn : ℕ → List ℕ → List (List ℕ)

@@ -2,9 +2,9 @@
 use basics::clear_numbers;
 use blocks::first_damaged;
 use copying::copy_all;
-use fields::clear_bytes;
 use listing::list_all;
 use rules::Refusal;
+use trace_blocks::clear_bytes;
 use words::clear;
 use writing::write_all;
 ghost use mathlib.Core.Path.{_≡_};
@@ -12,7 +12,6 @@ ghost use Rattle.recorder.specs.Calls.{traceRead, traceListed, traceWrit
 
 mod blocks;
 mod copying;
-mod fields;
 mod listing;
 mod writing;
 

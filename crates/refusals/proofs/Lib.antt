@@ -1,4 +1,4 @@
--- What the checks compute
+-- The table of reasons
 pub mod Reasons
 -- The best case's verdict
 pub mod Further

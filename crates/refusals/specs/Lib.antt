@@ -1,4 +1,2 @@
--- The two numbers of an edge
-pub mod Edges
 -- The best case's reasons, put into the graph call's verdict
 pub mod Further

@@ -28,7 +28,7 @@ use Rattle.rules.proofs.Lists.{every-append, every-map, every-weaker}
 use Rattle.rules.proofs.Contents.{every-held, with-lt, without-lt, sub-shared-left}
 use Rattle.rules.proofs.Filling.{no-more, evenly-at, evenly-most}
 use Rattle.rules.proofs.Sets.{risk-set, room-zero, room-risk, room-joined, room-moved}
-use Rattle.rules.proofs.Ordered.{turned, Orders, by-number, then-by, then-both, said-same, turned-before, before-first, after-first, neither-first}
+use Rattle.rules.proofs.Ordered.{turned, Orders, by-number, then-by, then-both, said-same, turned-before}
 use Rattle.rules.proofs.Listings.{Lawful, Weight, worthOf, worth, length-present, length-present-append, length-follow, length-add}
 use Rattle.rules.proofs.Step.{overWays, overWays-each}
 use Rattle.rules.proofs.AnyTable.{Keeps, Starts, Follows}
@@ -44,39 +44,6 @@ unfolding order
 best-orders =
     then-by _ (by-number side) _
     (then-by _ (by-number (λ s. s .mask)) _ (then-by _ (by-number missesOf) _ (by-number hitsOf)))
-
--- whether one stands before another, as code tells it: by exactness and mask, one way or the other, and otherwise by misses and hits
-module _ (s t : BestState) where
-  abbrev byContents : BestState → BestState → Order
-  byContents s t = byTwo side (λ s. s .mask) s t
-
-  abbrev byCounts : Order
-  byCounts = byTwo missesOf hitsOf s t
-
-  in-two : order s t ≡ thenBy (byContents s t) byCounts
-  unfolding order
-  in-two = go (byNumber (side s) (side t))
-    where
-      go : (o : Order) → thenBy o (thenBy (byNumber (s .mask) (t .mask)) byCounts) ≡ thenBy (thenBy o (byNumber (s .mask) (t .mask))) byCounts
-      go before = refl
-      go same = refl
-      go after = refl
-
-  back : byContents t s ≡ turned (byContents s t)
-  back = then-by {A = BestState} _ (by-number side) _ (by-number (λ s. s .mask)) .turn s t
-
-  -- a and b say whether they are exact
-  module _ (a b : ℕ) (is-a : a ≡ side s) (is-b : b ≡ side t) where
-    pub best-at-once : (r : Bool) → r ≡ isBefore (thenBy (byNumber a b) (byNumber (s .mask) (t .mask))) → r ≡ true → true ≡ isBefore (order s t)
-    best-at-once r e h = rw in-two (before-first (byContents s t) byCounts (rw (← is-a, ← is-b) (sym e ∙ h)))
-
-    pub best-after-once : (r : Bool) → r ≡ isBefore (thenBy (byNumber b a) (byNumber (t .mask) (s .mask))) → r ≡ true → false ≡ isBefore (order s t)
-    best-after-once r e h = rw in-two (after-first (byContents s t) byCounts (ap isBefore (sym back) ∙ rw (← is-a, ← is-b) (sym e ∙ h)))
-
-    pub best-by-counts : (p q r : Bool) → p ≡ isBefore (thenBy (byNumber a b) (byNumber (s .mask) (t .mask))) → p ≡ false
-        → q ≡ isBefore (thenBy (byNumber b a) (byNumber (t .mask) (s .mask))) → q ≡ false → r ≡ isBefore byCounts → r ≡ isBefore (order s t)
-    best-by-counts p q r e h f k g =
-        rw in-two (g ∙ neither-first (byContents s t) byCounts (rw (← is-a, ← is-b) (sym e ∙ h)) (ap isBefore (sym back) ∙ rw (← is-a, ← is-b) (sym f ∙ k)))
 
 -- only wholly equal states stand in the same place
 pub order-same : (s t : BestState) → order s t ≡ same

@@ -16,7 +16,7 @@ use Rattle.rules.specs.Units.{units}
 use Rattle.rules.specs.Answers.{Reason, when, first}
 use Rattle.rules.specs.Contents.{among, once, allTracked}
 use Rattle.rules.specs.Ordered.{Order, byTwo, rises}
-use Rattle.rules.specs.Input.{Input, nodes, Edge, edgesOf}
+use Rattle.rules.specs.Input.{Input, Edge, edgesOf}
 use Rattle.rules.specs.Graph.{finished}
 use Rattle.rules.specs.Best.{bestTable}
 
@@ -58,6 +58,11 @@ hasEdgeOut n es = eachBelow n (λ j. eqb (suc j) n || among (map (λ e. e .from)
 unfoldable pub edgesKept : ℕ → List ℕ → Bool
 edgesKept n ns = let es = edgesOf ns in inPairs ns && forward n es && rises edgeOrder es && hasEdgeIn n es && hasEdgeOut n es
 
+-- the node count, the run lengths, which sum to the accesses, or the edges break a rule
+abbrev pub graphBroken : List ℕ → ℕ → List ℕ → Bool
+graphBroken runs accesses edges =
+    outside 1 64 (length runs) || not (eqb (sumOver (λ n. n) runs) accesses) || not (edgesKept (length runs) edges)
+
 -- ---- the table of section 5, with document 02's refusals in their places
 
 -- the set counts that there are
@@ -90,10 +95,7 @@ accessesReason i = when (ltb 4096 (length (i .accesses))) Accesses
 
 -- 5: the nodes, the run lengths and the edges
 abbrev pub graphReason : Input → Reason
-graphReason i =
-    when
-    (outside 1 64 (nodes i) || not (eqb (sumOver (λ n. n) (i .lengths)) (length (i .accesses))) || not (edgesKept (nodes i) (i .edges)))
-    Graph
+graphReason i = when (graphBroken (i .lengths) (length (i .accesses)) (i .edges)) Graph
 
 -- 6: the rooms
 abbrev pub roomReason : Input → Reason

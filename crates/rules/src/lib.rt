@@ -2,11 +2,6 @@
 ghost use mathlib.Core.Path.{_≡_};
 ghost use Rattle.rules.specs.Units.{splitOf, addOf};
 ghost use Rattle.rules.specs.Answers.{numberOf};
-ghost use Rattle.rules.specs.Ordered.{byNumber, thenBy, isBefore};
-ghost use mathlib.Core.Bool.{cond};
-ghost use Rattle.rules.specs.Table.{order};
-ghost use Rattle.rules.specs.Best.{order as bestOrder};
-ghost use Rattle.rules.specs.Cycles.{coreAt};
 
 // A probability: whole units of 2^-48.
 #[repr(C)]
@@ -120,63 +115,6 @@ pub struct Target {
 pub enum Start {
     Cold,
     Warm,
-}
-
-// Whether one with the numbers `a` and `b` stands before one with `c` and `d`: by the first, and where that is the same by the second.
-pub fn precedes(a: u64, b: u64, c: u64, d: u64) -> bool
-    ensures { λ r. ⌜ r ≡ isBefore (thenBy (byNumber a c) (byNumber b d)) ⌝ }
-{
-    if a < c {
-        return true;
-    }
-    if c < a {
-        return false;
-    }
-    b < d
-}
-
-// Whether `s` stands before `t` in a table: by mask, then by misses, then by the filled numbers, set 0 first.
-pub fn stands_before(s: State, t: State) -> bool
-    ensures { λ r. ⌜ r ≡ isBefore (order s t) ⌝ }
-{
-    if precedes(s.mask, s.misses, t.mask, t.misses) {
-        return true;
-    }
-    if precedes(t.mask, t.misses, s.mask, s.misses) {
-        return false;
-    }
-    let f = s.filled;
-    let g = t.filled;
-    precedes(f.front, f.back, g.front, g.back)
-}
-
-// Where a state of the best case's table stands as to exactness: 0 for an exact state, 1 for an open one.
-pub fn open_flag(exact: bool) -> u64
-    ensures { λ r. ⌜ r ≡ cond exact 0 1 ⌝ }
-{
-    if exact {
-        return 0;
-    }
-    1
-}
-
-// Whether `s` stands before `t` in the best case's table: exact states by mask, misses and hits, and open ones after them.
-pub fn best_before(s: BestState, t: BestState) -> bool
-    ensures { λ r. ⌜ r ≡ isBefore (bestOrder s t) ⌝ }
-{
-    let a = open_flag(s.exact);
-    let b = open_flag(t.exact);
-    if precedes(a, s.mask, b, t.mask) {
-        return true;
-    }
-    if precedes(b, t.mask, a, s.mask) {
-        return false;
-    }
-    let m = s.misses;
-    let h = s.hits;
-    let n = t.misses;
-    let g = t.hits;
-    precedes(m.0, h.0, n.0, g.0)
 }
 
 // The places of the two states that a fold makes one: that of fewest units in the table, and its partner's among the others.
@@ -298,30 +236,4 @@ pub enum Length {
 pub struct Core {
     pub hit: u64,
     pub miss: u64,
-}
-
-// The cores in service: document 02, request 9/13.
-const CORES: [Core; 12] = [
-    Core { hit: 1, miss: 8 },
-    Core { hit: 1, miss: 10 },
-    Core { hit: 1, miss: 12 },
-    Core { hit: 1, miss: 20 },
-    Core { hit: 2, miss: 10 },
-    Core { hit: 2, miss: 16 },
-    Core { hit: 2, miss: 24 },
-    Core { hit: 2, miss: 40 },
-    Core { hit: 3, miss: 15 },
-    Core { hit: 3, miss: 30 },
-    Core { hit: 3, miss: 60 },
-    Core { hit: 4, miss: 100 },
-];
-
-// The core of a number; past the last one there is none, and it takes no cycles.
-pub fn core_at(number: usize) -> Core
-    ensures { λ r. ⌜ r ≡ coreAt number ⌝ }
-{
-    if number < 12 {
-        return CORES[number];
-    }
-    Core { hit: 0, miss: 0 }
 }

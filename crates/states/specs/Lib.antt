@@ -2,5 +2,3 @@
 pub mod Filling
 -- What an access makes of a state
 pub mod Step
--- How good a partner is
-pub mod Partners

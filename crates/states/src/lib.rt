@@ -1,6 +1,5 @@
 // What is done with one state or two, by value: this needs no table, and so nothing of its callers. Two states that stand in the same place or are made one are here, the filled numbers in
-// `filled`, the block accessed directly before in `last`, what an access makes of a state in `step`, a state's partner in a fold in `partner`; `best` has what
-// looks at two states of the best case's table.
+// `filled`, what an access makes of a state in `step`; `best` has what looks at two states of the best case's table.
 use crate::filled::fullest;
 use crate::filled::same_filled;
 use basics::larger;
@@ -14,8 +13,6 @@ ghost use Rattle.tables.specs.Placing.{isSame};
 
 pub mod best;
 pub mod filled;
-pub mod last;
-pub mod partner;
 pub mod step;
 
 // Whether both are so.

@@ -1,7 +1,7 @@
 // Whether the states in some words are a table: document 01, section 4, with the filled numbers of document 02, request 6/13.
 use crate::states::is_fitting;
+use orders::stands_before;
 use rules::Units;
-use rules::stands_before;
 use words::state_at;
 ghost use mathlib.Core.Path.{_≡_};
 ghost use lib.Dec.{eqb};

@@ -11,7 +11,7 @@ use lib.Seq.{drop-cons, drop-drop, getD-drop}
 use borrow.Author.Tests.{eq-eqb, ne-eqb, eqb-true, lt-ltb, le-ltb, ltb-true, ltb-false}
 use Rattle.rules.specs.Input.{edgesOf, predecessors}
 use Rattle.rules.specs.Shape.{Every}
-use Rattle.refusals.proofs.Reasons.{edges-next, edges-end}
+use Rattle.graph_check.proofs.Checks.{edges-next, edges-end}
 use Rattle.tables.specs.Edges.{cameFrom, AtEdge, numbersBefore, nextEdge}
 
 module _ (ns : List ℕ) (j e : ℕ) where

@@ -1,6 +1,6 @@
 // What the code of the two tables has in common where no state enters: contents as masks, what an access is after, the fewer of two units, and the edges into a node. What is the
 // same for any kind of state can only be said once in laws: `proofs` has those, and `estimate` and `best` cite them.
-use refusals::is_set_count;
+use graph_check::is_set_count;
 use rules::Last;
 use rules::Place;
 use rules::Target;

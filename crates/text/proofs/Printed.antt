@@ -22,17 +22,16 @@ use Rattle.rules.specs.Longest.{longest}
 use Rattle.rules.proofs.Refusals.{numbered, checked}
 use Rattle.rules.proofs.Longest.{longest-most, finished-within}
 use Rattle.words.specs.Tables.{tableOf}
-use Rattle.parts.specs.declared.Choice.{Choice}
-use Rattle.parts.specs.Parts.{complete, inputFrom}
+use Rattle.curve_numbers.specs.declared.Choice.{Choice}
+use Rattle.curve_numbers.specs.Parts.{complete, inputFrom}
 use Rattle.parts.specs.Call.{numbersOutcome}
 use Rattle.parts.proofs.Calls.{Called, worked-complete, worked-accepted, worked-says, worked-table, table-there}
 use Rattle.writing.specs.Writing.{refusedLine}
 use Rattle.writing.specs.Told.{told, accepts}
 use Rattle.lines.specs.Lines.{headLine, linesBelow, curveLines}
-use Rattle.text.specs.Printed.{ofInput, ofNumbers, numbersWorked}
-use Rattle.text.specs.Curve.{curve}
+use Rattle.printed.specs.Printed.{ofInput, ofNumbers, numbersWorked}
 use Rattle.lines.specs.Cores.{longestLine, coreLines}
-use Rattle.text.specs.Cycles.{inCycles}
+use Rattle.printed.proofs.Printed.{curve-printed, cycles-printed}
 use Rattle.text.specs.Working.{Finishes}
 
 -- ---- what the graph call answers, and what is told of the input
@@ -85,13 +84,10 @@ module _ (ch : Choice) (ns : List ℕ) (r : Outcome) (rs ws result work : List �
   table-is = table-there ch ns r rs ws result work called states aside f
 
   -- of the numbers that are said and the table that stands there
-  printed-accepted : (text : Input → List ℕ) (lines : ℕ → ℕ → List State → List ℕ) → lines (length (finished i .table)) (finished i .aside) (finished i .table) ≡ text i
-      → lines states (aside .0) (take states (tableOf result)) ≡ ofNumbers text ch ns
-  unfolding ofNumbers ofInput
-  printed-accepted text lines e =
-      ap₂ (λ (q : Outcome) (T : List State). lines (outcomeSays q .states) (outcomeSays q .aside) T) (worked-says ch ns states aside answers) table-is
-      ∙ e
-      ∙ sym (ap₂ (λ (b : Bool) (v : Verdict). cond b (told v (text i)) (refusedLine (numberOf Text))) ok is-accepted)
+  printed-there : (text : List ℕ) (lines : ℕ → ℕ → List State → List ℕ) → lines (length (finished i .table)) (finished i .aside) (finished i .table) ≡ text
+      → lines states (aside .0) (take states (tableOf result)) ≡ text
+  printed-there text lines e =
+      ap₂ (λ (q : Outcome) (T : List State). lines (outcomeSays q .states) (outcomeSays q .aside) T) (worked-says ch ns states aside answers) table-is ∙ e
 
   pub finished-worked : numbersWorked ch ns ≡ true
   unfolding numbersWorked
@@ -101,7 +97,6 @@ module _ (ch : Choice) (ns : List ℕ) (r : Outcome) (rs ws result work : List �
   finished-cleared = called .worked (ap (λ (q : Outcome). outcomeSays q .number) f)
 
   pub left-finished : Finishes ch ns result states aside
-  unfolding curve inCycles
   left-finished =
       let all = checked i (sym is-accepted) in
       record {
@@ -110,7 +105,7 @@ module _ (ch : Choice) (ns : List ℕ) (r : Outcome) (rs ws result work : List �
         table = rw table-is (worked-table ch ns states aside answers);
         covered = rw table-is (finished-within i all);
         few = le-trans (longest-most i all) (all .few-accesses);
-        curve-is = printed-accepted curve (λ n a T. headLine n a ++ curveLines T) refl;
+        curve-is = printed-there _ (λ n a T. headLine n a ++ curveLines T) (curve-printed ch ns ok is-accepted);
         cycles-are = λ L e. rw e
-            (printed-accepted inCycles (λ n a T. longestLine n a (longest i) ++ linesBelow (coreLines (longest i) T) (length cores)) refl);
+            (printed-there _ (λ n a T. longestLine n a (longest i) ++ linesBelow (coreLines (longest i) T) (length cores)) (cycles-printed ch ns ok is-accepted));
       }

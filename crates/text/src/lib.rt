@@ -1,14 +1,14 @@
 // Curves as text: from the bytes or numbers of a graph to the bytes of its curve, in misses or in cycles, in rooms that the caller lends.
-use crate::working::Form;
-use crate::working::Wanted;
-use crate::working::has_room;
 use crate::working::put_form;
 use crate::working::put_text;
 use basics::clear_numbers;
+use printed::Form;
+use printed::Wanted;
+use printed::has_room;
 use writing::Written;
 ghost use mathlib.Core.Path.{_≡_};
-ghost use Rattle.text.specs.Rooms.{afterNumbers, afterText, afterCyclesOfNumbers, afterCyclesOfText, afterChosenText, afterCyclesOfChosenText};
-ghost use Rattle.text.specs.Wanted.{wantedAfter, wantedAfterText};
+ghost use Rattle.printed.specs.Rooms.{afterNumbers, afterText, afterCyclesOfNumbers, afterCyclesOfText, afterChosenText, afterCyclesOfChosenText};
+ghost use Rattle.printed.specs.Wanted.{wantedAfter, wantedAfterText};
 
 mod working;
 

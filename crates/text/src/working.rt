@@ -1,11 +1,15 @@
 // From the numbers to the text: the graph call, the questions, and the lines that they give.
+use curve_numbers::Choice;
+use curve_numbers::Chosen;
+use curve_numbers::choice_in;
 use lines::put_cores;
 use lines::put_counts;
 use lines::put_head;
 use lines::put_longest;
-use parts::Choice;
 use parts::analyse_numbers;
 use parts::longest_of_numbers;
+use printed::Form;
+use printed::Wanted;
 use questions::spread_in;
 use reading::Read;
 use reading::read_numbers;
@@ -19,7 +23,7 @@ use writing::put_refused;
 ghost use mathlib.Core.Path.{_≡_};
 ghost use mathlib.Core.Bool.{true};
 ghost use mathlib.Core.List.{_++_};
-ghost use Prim.Native.Nat.{_≤_, _<_};
+ghost use Prim.Native.Nat.{_≤_};
 ghost use lib.ListN.{length, take, replicate};
 ghost use Rattle.rules.specs.declared.Verdict.the-variants.{Accepted};
 ghost use Rattle.rules.specs.Questions.{isTable, largest};
@@ -27,28 +31,16 @@ ghost use Rattle.rules.specs.Refusals.{verdict};
 ghost use Rattle.rules.specs.Cycles.{cores};
 ghost use Rattle.rules.specs.Longest.{longest};
 ghost use Rattle.words.specs.Tables.{tableOf};
-ghost use Rattle.parts.specs.Parts.{complete, inputFrom};
+ghost use Rattle.curve_numbers.specs.Parts.{complete, inputFrom};
 ghost use Rattle.writing.specs.Put.{Put};
 ghost use Rattle.writing.specs.Told.{ofText, textWorked};
 ghost use Rattle.lines.specs.Lines.{headLine, curveLines, linesBelow};
-ghost use Rattle.text.specs.Printed.{ofNumbers, numbersWorked};
+ghost use Rattle.printed.specs.Printed.{ofNumbers, numbersWorked};
 ghost use Rattle.lines.specs.Cores.{longestLine, coreLines};
-ghost use Rattle.text.specs.Choices.{startOf, ofChosen, chosenWorked, ofForm, formWorked};
-ghost use Rattle.text.specs.Rooms.{longEnough};
-ghost use Rattle.text.specs.Working.{Counted, Finishes, Wrote};
-ghost use Rattle.text.specs.Wanted.{wantedText, wantedBytes};
-
-// Which text is wanted: the curve, or the curves in cycles.
-pub(crate) enum Wanted {
-    Misses,
-    Cycles,
-}
-
-// The form of a text's numbers: the curve's alone, or a set count, a revision and a start before them.
-pub(crate) enum Form {
-    Plain,
-    Chosen,
-}
+ghost use Rattle.printed.specs.Choices.{ofChosen, chosenWorked, ofForm, formWorked};
+ghost use Rattle.printed.specs.Rooms.{Wrote};
+ghost use Rattle.text.specs.Working.{Counted, Finishes};
+ghost use Rattle.printed.specs.Wanted.{wantedText};
 
 // The accesses of the longest path, where the graph call is accepted.
 fn longest_of(choice: Choice, numbers: &[u32]) -> u64
@@ -185,16 +177,6 @@ pub(crate) fn put_numbers(
     }
 }
 
-// The start that a number stands for: 0 for an empty cache.
-fn start_of(number: u32) -> Start
-    ensures { λ r. ⌜ r ≡ startOf number ⌝ }
-{
-    if number == 0 {
-        return Start::Cold;
-    }
-    Start::Warm
-}
-
 // The text that is wanted of numbers that begin with a choice, or the line of a refusal: 9 too where one of the three is missing, or the start is neither 0 nor 1.
 pub(crate) fn put_chosen(
     wanted: Wanted,
@@ -207,19 +189,12 @@ pub(crate) fn put_chosen(
     requires { ⌜ (320 ≤ length (now result)) × (25920 ≤ length (now work)) × (4097 ≤ length (now counts)) ⌝ }
     ensures { λ r. ⌜ Wrote (chosenWorked (now (numbers .entry))) (ofChosen (wantedText wanted) (now (numbers .entry))) r (record { result = now (result .entry); work = now (work .entry); counts = now (counts .entry); output = now (output .entry) }) (record { result = now (result .exit); work = now (work .exit); counts = now (counts .exit); output = now (output .exit) }) ⌝ }
 {
-    if numbers.len() < 3 {
-        return put_refused(output, 9);
+    match choice_in(numbers) {
+        Chosen::Nothing => put_refused(output, 9),
+        Chosen::Cache(choice) => {
+            put_numbers(wanted, choice, &numbers[3..], result, work, counts, output)
+        }
     }
-    if numbers[2] > 1 {
-        return put_refused(output, 9);
-    }
-    let start = start_of(numbers[2]);
-    let choice = Choice {
-        sets: numbers[0],
-        revision: numbers[1],
-        start,
-    };
-    put_numbers(wanted, choice, &numbers[3..], result, work, counts, output)
 }
 
 // The same of numbers of either form; document 01's cache has one set, is of the first revision and found empty.
@@ -266,36 +241,4 @@ pub(crate) fn put_text(
         Read::Nothing => put_refused(output, 9),
         Read::Numbers(n) => put_form(form, wanted, &numbers[..n], result, work, counts, output),
     }
-}
-
-// The bytes that are surely enough for the text that is wanted.
-fn bytes_for(wanted: Wanted) -> usize
-    ensures { λ r. ⌜ r ≡ wantedBytes wanted ⌝ }
-{
-    match wanted {
-        Wanted::Misses => 262144,
-        Wanted::Cycles => 3145728,
-    }
-}
-
-// Whether rooms of so many words and bytes are long enough.
-pub(crate) fn has_room(
-    wanted: Wanted,
-    result: usize,
-    work: usize,
-    counts: usize,
-    output: usize,
-) -> bool
-    ensures { λ r. ⌜ r ≡ longEnough (wantedBytes wanted) result work counts output ⌝ }
-{
-    if result < 320 {
-        return false;
-    }
-    if work < 25920 {
-        return false;
-    }
-    if counts < 4097 {
-        return false;
-    }
-    bytes_for(wanted) <= output
 }

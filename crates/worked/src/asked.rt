@@ -1,4 +1,4 @@
-// The questions put to a table that the graph call left in its result room; and what has to be answered, from the document's states.
+// The questions put to a table that the graph call left in its result room, whose states are compared with the document's; and what has to be answered, from these states.
 use crate::cycles::every_core;
 use crate::expected::MOST;
 use crate::expected::first_budget;
@@ -10,6 +10,7 @@ use crate::expected::units_above;
 use crate::numbers::HALF;
 use crate::numbers::RARE;
 use crate::numbers::WHOLE;
+use crate::numbers::end_line;
 use crate::numbers::say_number;
 use crate::report::Report;
 use crate::rooms::first;
@@ -22,96 +23,70 @@ use questions::above_in;
 use questions::smallest_budget_in;
 use questions::spread_in;
 
-// The spread, in room for so many words.
+// The spread in room for so many words, or a refusal, which leaves the room as it was.
 pub(crate) fn spread(
-    result: &[u64],
+    words: &[u64],
     n: usize,
-    words: u64,
-    states: &[u64],
+    room_words: u64,
+    answer: u64,
     report: Report,
 ) -> Report {
     let mut longest: [u64; 4100] = [0; 4100];
-    let room = first(&mut longest, words);
+    let room = first(&mut longest, room_words);
     mark(room);
-    let said = count_said(spread_in(result, n, room));
-    report
-        .compared(said.refusal == 0)
-        .compared(said.value == last_count(states))
-        .compared(has_counts(room, states))
-}
-
-// The spread in room for so many words is refused with `refusal`, and the room is as it was.
-pub(crate) fn no_spread(
-    result: &[u64],
-    n: usize,
-    words: u64,
-    refusal: u64,
-    report: Report,
-) -> Report {
-    let mut longest: [u64; 4100] = [0; 4100];
-    let room = first(&mut longest, words);
-    mark(room);
-    let said = count_said(spread_in(result, n, room));
-    report
-        .compared(said.refusal == refusal)
-        .compared(is_marked(room))
+    let said = count_said(spread_in(words, n, room));
+    let told = report.compared(said.refusal == answer);
+    if answer != 0 {
+        return told.compared(is_marked(room));
+    }
+    told.compared(said.value == last_count(words, n))
+        .compared(has_counts(room, words, n))
 }
 
 // The units above one budget.
-pub(crate) fn above(
-    result: &[u64],
-    n: usize,
-    budget: u64,
-    states: &[u64],
-    report: Report,
-) -> Report {
-    let said = amount_said(above_in(result, n, budget));
-    let passed = report.compared(said.refusal == 0);
-    passed.compared(said.value == units_above(states, budget))
+pub(crate) fn above(words: &[u64], n: usize, budget: u64, report: Report) -> Report {
+    let said = amount_said(above_in(words, n, budget));
+    report
+        .compared(said.refusal == 0)
+        .compared(said.value == units_above(words, n, budget))
 }
 
 // The smallest budget for one number of units.
-pub(crate) fn budget(
-    result: &[u64],
-    n: usize,
-    units: u64,
-    states: &[u64],
-    report: Report,
-) -> Report {
-    let said = count_said(smallest_budget_in(result, n, units));
-    let passed = report.compared(said.refusal == 0);
-    passed.compared(said.value == first_budget(states, units, last_count(states)))
+pub(crate) fn budget(words: &[u64], n: usize, units: u64, report: Report) -> Report {
+    let said = count_said(smallest_budget_in(words, n, units));
+    report.compared(said.refusal == 0).compared(
+        said.value == first_budget(words, n, units, last_count(words, n)),
+    )
 }
 
-// Each budget below `end`, and for the units above it, and one unit less, the smallest budget.
-fn each_budget(result: &[u64], n: usize, end: u64, states: &[u64], report: Report) -> Report {
+// One budget, and for the units above it, and one unit less, the smallest budget.
+fn around(words: &[u64], n: usize, misses: u64, report: Report) -> Report {
+    let units = units_above(words, n, misses);
+    let found = above(words, n, misses, report);
+    let served = budget(words, n, units, found);
+    budget(words, n, one_less(units), served)
+}
+
+// Each budget below `end`.
+fn each_budget(words: &[u64], n: usize, end: u64, report: Report) -> Report {
     let mut all = report;
     let mut b: u64 = 0;
     while b < end {
-        let units = units_above(states, b);
-        let found = above(result, n, b, states, all);
-        let served = budget(result, n, units, states, found);
-        all = budget(result, n, one_less(units), states, served);
+        all = around(words, n, b, all);
         b += 1;
     }
     all
 }
 
-// Every question that can be put to the table of these states; the spread in room for exactly as many words as are needed, for one less, and for `more`.
-pub(crate) fn every_question(
-    result: &[u64],
-    n: usize,
-    more: u64,
-    states: &[u64],
-    report: Report,
-) -> Report {
-    let last = last_count(states);
-    let long = spread(result, n, more, states, report);
-    let exact = spread(result, n, plus(last, 1), states, long);
-    let short = no_spread(result, n, last, 8, exact);
-    let budgets = each_budget(result, n, plus(last, 2), states, short);
-    let most = budget(result, n, MOST, states, budgets);
-    above(result, n, MOST, states, most)
+// Every question that can be put to a table of `n` states; the spread in room for exactly as many words as are needed, for one less, and for `more`.
+pub(crate) fn every_question(words: &[u64], n: usize, more: u64, report: Report) -> Report {
+    let last = last_count(words, n);
+    let long = spread(words, n, more, 0, report);
+    let exact = spread(words, n, plus(last, 1), 0, long);
+    let short = spread(words, n, last, 8, exact);
+    let budgets = each_budget(words, n, plus(last, 2), short);
+    let most = budget(words, n, MOST, budgets);
+    above(words, n, MOST, most)
 }
 
 // The answers, in three lines.
@@ -127,7 +102,7 @@ fn say_budgets(name: &[u8], result: &[u64], n: usize) {
     say_budget(result, n, HALF);
     say_budget(result, n, WHOLE - 1);
     say_budget(result, n, WHOLE);
-    io::write_all(1, b"\n");
+    end_line();
 }
 
 fn say_units_above(result: &[u64], n: usize, budget: u64) {
@@ -143,7 +118,7 @@ fn say_above(name: &[u8], result: &[u64], n: usize, last: u64) {
         b += 1;
     }
     say_units_above(result, n, last);
-    io::write_all(1, b"\n");
+    end_line();
 }
 
 fn say_spread(name: &[u8], room: &[u64], last: u64) {
@@ -156,7 +131,7 @@ fn say_spread(name: &[u8], room: &[u64], last: u64) {
         }
         i += 1;
     }
-    io::write_all(1, b"\n");
+    end_line();
 }
 
 fn say_answers(name: &[u8], result: &[u64], n: usize) {
@@ -173,11 +148,10 @@ pub(crate) fn ask_case(
     result: &[u64],
     n: usize,
     longest: u64,
-    states: &[u64],
     report: Report,
 ) -> Report {
     say_answers(name, result, n);
     say_cycles(name, result, n, longest);
-    let asked = every_question(result, n, 10, states, report);
-    every_core(result, n, longest, 0, plus(longest, 1), states, asked)
+    let asked = every_question(result, n, 10, report);
+    every_core(result, n, longest, 0, plus(longest, 1), asked)
 }

@@ -7,7 +7,6 @@ use crate::lines::next_line;
 use crate::lines::read_fields;
 use crate::listings::listing_line;
 use crate::nights::night_line;
-use crate::numbers::say_both;
 use crate::report::Report;
 use crate::tables::allowed_line;
 use crate::tables::ladder_line;
@@ -15,26 +14,20 @@ use crate::tables::row_line;
 use crate::tables::time_line;
 use crate::traces::trace_line;
 
-// What is written of a line first: what it is about, and its name. A worked case writes its name itself, and of the others nothing is written.
+// What is written of a line first: its name. A worked case and a graph with pairings write it before each of their answers, and of a remark nothing is written.
 fn say_name(kind: u8, name: &[u8]) {
     match kind {
-        b'r' => say_both(b"refusals: ", name),
-        b'p' => say_both(b"longest path: ", name),
-        b'f' => say_both(b"best case: ", name),
-        b'q' | b'l' => say_both(b"questions: ", name),
-        b't' => say_both(b"cycles: ", name),
-        b'i' => say_both(b"quick: ", name),
-        b'o' => say_both(b"nightly: ", name),
-        b'c' => say_both(b"listing: ", name),
-        b'm' | b'd' | b'g' | b's' => say_both(b"traces: ", name),
-        _ => {}
+        b'w' | b'j' | b'#' | b'\n' => {}
+        _ => {
+            io::write_all(1, name);
+        }
     }
 }
 
 // A line of a graph, of a row, of a listing, of a list of graphs, or of a trace. One that begins with another letter is a remark, or empty.
 fn case(kind: u8, name: &[u8], line: &[u64], trace: &mut [u8], report: Report) -> Report {
     match kind {
-        b'w' | b'r' | b'p' | b'f' | b'j' => graph_line(kind, name, line, report),
+        b'w' | b'r' | b'p' | b'f' | b'j' | b'u' => graph_line(kind, name, line, report),
         b'q' => row_line(line, field_of(line, 3), report),
         b't' => time_line(line, field_of(line, 2), report),
         b'a' => allowed_line(line, field_of(line, 2), report),

@@ -24,26 +24,37 @@ fn part_above(cycles: u64, budget: u64, units: u64) -> u64 {
     0
 }
 
-// The units of the states with more cycles than `budget`: each state's misses, in a path of `longest` accesses.
-fn units_above_cycles(states: &[u64], core: Core, longest: u64, budget: u64) -> u64 {
-    let n = states.len() / 5;
+// The units of the states with more cycles than `budget`: the misses of each of the first `n`, in a path of `longest` accesses.
+fn units_above_cycles(words: &[u64], n: usize, core: Core, longest: u64, budget: u64) -> u64 {
+    let held = words.len() / 5;
     let mut units: u64 = 0;
     let mut i: usize = 0;
-    while i < n {
-        let cycles = cycles_of(core, longest, states[i * 5 + 1]);
-        units = plus(units, part_above(cycles, budget, states[i * 5 + 4]));
+    while i < held {
+        if n <= i {
+            return units;
+        }
+        let cycles = cycles_of(core, longest, words[i * 5 + 1]);
+        units = plus(units, part_above(cycles, budget, words[i * 5 + 4]));
         i += 1;
     }
     units
 }
 
 // The cycles of `misses` misses where they are fewer than `least` and leave at most `units` above; otherwise `least`.
-fn lesser(states: &[u64], core: Core, longest: u64, units: u64, misses: u64, least: u64) -> u64 {
+fn lesser(
+    words: &[u64],
+    n: usize,
+    core: Core,
+    longest: u64,
+    units: u64,
+    misses: u64,
+    least: u64,
+) -> u64 {
     let cycles = cycles_of(core, longest, misses);
     if least <= cycles {
         return least;
     }
-    if units < units_above_cycles(states, core, longest, cycles) {
+    if units < units_above_cycles(words, n, core, longest, cycles) {
         return least;
     }
     cycles
@@ -51,15 +62,18 @@ fn lesser(states: &[u64], core: Core, longest: u64, units: u64, misses: u64, lea
 
 // The smallest cycle budget that leaves at most `units` above. The units above change at the cycles of a state and nowhere else, so it is
 // one of these, or 0.
-fn first_cycles(states: &[u64], core: Core, longest: u64, units: u64) -> u64 {
-    if units_above_cycles(states, core, longest, 0) <= units {
+fn first_cycles(words: &[u64], n: usize, core: Core, longest: u64, units: u64) -> u64 {
+    if units_above_cycles(words, n, core, longest, 0) <= units {
         return 0;
     }
-    let n = states.len() / 5;
+    let held = words.len() / 5;
     let mut least = MOST;
     let mut i: usize = 0;
-    while i < n {
-        least = lesser(states, core, longest, units, states[i * 5 + 1], least);
+    while i < held {
+        if n <= i {
+            return least;
+        }
+        least = lesser(words, n, core, longest, units, words[i * 5 + 1], least);
         i += 1;
     }
     least
@@ -74,12 +88,12 @@ pub(crate) fn above(
     core: usize,
     longest: u64,
     budget: u64,
-    states: &[u64],
     report: Report,
 ) -> Report {
     let said = amount_said(above_cycles_in(words, n, core, longest, budget));
-    let passed = report.compared(said.refusal == 0);
-    passed.compared(said.value == units_above_cycles(states, core_of(core), longest, budget))
+    report.compared(said.refusal == 0).compared(
+        said.value == units_above_cycles(words, n, core_of(core), longest, budget),
+    )
 }
 
 // The smallest cycle budget for one number of units.
@@ -89,12 +103,12 @@ pub(crate) fn budget(
     core: usize,
     longest: u64,
     units: u64,
-    states: &[u64],
     report: Report,
 ) -> Report {
     let said = time_said(smallest_cycles_in(words, n, core, longest, units));
-    let passed = report.compared(said.refusal == 0);
-    passed.compared(said.value == first_cycles(states, core_of(core), longest, units))
+    report.compared(said.refusal == 0).compared(
+        said.value == first_cycles(words, n, core_of(core), longest, units),
+    )
 }
 
 // Both questions are refused with `refusal`.
@@ -122,12 +136,11 @@ fn budgets_around(
     core: usize,
     longest: u64,
     units: u64,
-    states: &[u64],
     report: Report,
 ) -> Report {
-    let less = budget(words, n, core, longest, one_less(units), states, report);
-    let exact = budget(words, n, core, longest, units, states, less);
-    budget(words, n, core, longest, plus(units, 1), states, exact)
+    let less = budget(words, n, core, longest, one_less(units), report);
+    let exact = budget(words, n, core, longest, units, less);
+    budget(words, n, core, longest, plus(units, 1), exact)
 }
 
 // The cycles of a miss count as the budget, one cycle less and one more; and the smallest cycle budgets around the units above it.
@@ -137,15 +150,14 @@ fn around(
     core: usize,
     longest: u64,
     misses: u64,
-    states: &[u64],
     report: Report,
 ) -> Report {
     let cycles = cycles_of(core_of(core), longest, misses);
-    let less = above(words, n, core, longest, one_less(cycles), states, report);
-    let exact = above(words, n, core, longest, cycles, states, less);
-    let more = above(words, n, core, longest, plus(cycles, 1), states, exact);
-    let units = units_above(states, misses);
-    budgets_around(words, n, core, longest, units, states, more)
+    let less = above(words, n, core, longest, one_less(cycles), report);
+    let exact = above(words, n, core, longest, cycles, less);
+    let more = above(words, n, core, longest, plus(cycles, 1), exact);
+    let units = units_above(words, n, misses);
+    budgets_around(words, n, core, longest, units, more)
 }
 
 // Each miss count from `from` up to below `end`.
@@ -156,33 +168,25 @@ fn each_count(
     longest: u64,
     from: u64,
     end: u64,
-    states: &[u64],
     report: Report,
 ) -> Report {
     let mut all = report;
     let mut misses = from;
     while misses < end {
-        all = around(words, n, core, longest, misses, states, all);
+        all = around(words, n, core, longest, misses, all);
         misses += 1;
     }
     all
 }
 
 // The smallest and the largest numbers.
-fn ends(
-    words: &[u64],
-    n: usize,
-    core: usize,
-    longest: u64,
-    states: &[u64],
-    report: Report,
-) -> Report {
-    let least = above(words, n, core, longest, 0, states, report);
-    let most = above(words, n, core, longest, MOST, states, least);
-    let none = budget(words, n, core, longest, 0, states, most);
-    let one = budget(words, n, core, longest, 1, states, none);
-    let whole = budgets_around(words, n, core, longest, WHOLE, states, one);
-    budget(words, n, core, longest, MOST, states, whole)
+fn ends(words: &[u64], n: usize, core: usize, longest: u64, report: Report) -> Report {
+    let least = above(words, n, core, longest, 0, report);
+    let most = above(words, n, core, longest, MOST, least);
+    let none = budget(words, n, core, longest, 0, most);
+    let one = budget(words, n, core, longest, 1, none);
+    let whole = budgets_around(words, n, core, longest, WHOLE, one);
+    budget(words, n, core, longest, MOST, whole)
 }
 
 // On every core: the smallest and the largest numbers, and those around each miss count from `from` up to below `end`.
@@ -192,14 +196,13 @@ pub(crate) fn every_core(
     longest: u64,
     from: u64,
     end: u64,
-    states: &[u64],
     report: Report,
 ) -> Report {
     let mut all = report;
     let mut core: usize = 0;
     while core < 12 {
-        let asked = ends(words, n, core, longest, states, all);
-        all = each_count(words, n, core, longest, from, end, states, asked);
+        let asked = ends(words, n, core, longest, all);
+        all = each_count(words, n, core, longest, from, end, asked);
         core += 1;
     }
     all

@@ -1,16 +1,14 @@
-// The lines of the best case (document 02, request 10/13): what its call leaves in its rooms, and the spreads of misses and of hits of its table. The fields are those of a
+// The lines of the best case (document 02, request 10/13): the spreads of misses and of hits of its table; what its call leaves in its rooms is compared as for any graph. The fields are those of a
 // graph, and two more:
 //
 //     floor NAME | .. | answer | states | units at each miss count | units at each hit count
 //
 // where a state is exact/mask/misses/hits/units, with 1 for an exact one and 0 for an open one.
 use crate::lines::field_of;
-use crate::lines::number;
 use crate::numbers::say;
 use crate::numbers::say_answer;
 use crate::report::Report;
 use crate::rooms::has_only;
-use crate::rooms::is_marked;
 use crate::rooms::mark;
 use best_questions::hit_spread_in;
 use best_questions::miss_spread_in;
@@ -57,31 +55,18 @@ fn compare_spreads(table: &[u64], states: usize, line: &[u64], report: Report) -
     compare_field(field_of(line, 10), &room, hits, held)
 }
 
-// What the call gave is compared, `refusal` being its number and `states` how many states there are.
-pub(crate) fn compare_floor(
+// What the call gave is written, `refusal` being its number and `states` how many states there are, and the spreads are compared.
+pub(crate) fn ask_floor(
     refusal: u64,
     states: usize,
     line: &[u64],
     result: &[u64],
-    work: &[u64],
     report: Report,
 ) -> Report {
-    let answered = report.compared(refusal == number(line, 7, 0));
     if refusal != 0 {
         say_answer(refusal);
-        return answered
-            .compared(is_marked(result))
-            .compared(is_marked(work));
+        return report;
     }
     say(b": states ", states as u64);
-    let cleared = answered.compared(has_only(work, &[]));
-    let table = compare_field(field_of(line, 8), result, times_five(states), cleared);
-    compare_spreads(result, states, line, table)
-}
-
-fn times_five(states: usize) -> usize {
-    if 64 < states {
-        return 0;
-    }
-    states * 5
+    compare_spreads(result, states, line, report)
 }

@@ -2,7 +2,7 @@
 //
 //     worked case 3: | 1 set of 1, limit 64 | 10 11 12 | 4 | 10 10 11 10 | | ..
 //
-// In a field all but digits separates numbers, and `10*4096` is 10, 4,096 times. The numbers of a line stand in one room from place 16 on, and at
+// In a field all but digits separates numbers, `10*4096` is 10, 4,096 times, and `2.1` is a word of eight bytes, of which the first, the highest, is 2 and the second 1. The numbers of a line stand in one room from place 16 on, and at
 // place k of the room where field k begins; the one behind the last field begins where the numbers end.
 use crate::expected::MOST;
 use crate::expected::plus;
@@ -38,8 +38,8 @@ pub(crate) fn next_line(text: &[u8], from: usize) -> usize
     end + 1
 }
 
-// What was read of a line: which field is next, where the next number belongs, the digits of the one that is being read, and the number
-// that they repeat.
+// What was read of a line: which field is next, where the next number belongs, the digits of the one that is being read, the number
+// that they repeat, and the bytes before them with how many bits are behind the next one.
 struct Scan {
     field: usize,
     end: usize,
@@ -47,6 +47,8 @@ struct Scan {
     digits: bool,
     value: u64,
     repeated: bool,
+    bytes: u64,
+    behind: usize,
 }
 
 // Ten times a number and a digit; the largest number stands for one that does not fit.
@@ -72,12 +74,41 @@ fn put_all(room: &mut [u64], from: usize, end: usize, value: u64) {
     }
 }
 
+// The bytes that were read, and the next one with `behind` bits behind it.
+fn with_byte(bytes: u64, byte: u64, behind: usize) -> u64 {
+    if 56 < behind {
+        return bytes;
+    }
+    bytes | ((byte % 256) << behind)
+}
+
+// The number that was read, or the word of eight bytes.
+fn number_read(scan: Scan) -> u64 {
+    if scan.behind == 56 {
+        return scan.number;
+    }
+    with_byte(scan.bytes, scan.number, scan.behind)
+}
+
+// A byte ends here, and another one follows.
+fn end_byte(scan: Scan) -> Scan {
+    let mut next = scan;
+    next.bytes = with_byte(scan.bytes, scan.number, scan.behind);
+    next.number = 0;
+    if 8 <= scan.behind {
+        next.behind = scan.behind - 8;
+    }
+    next
+}
+
 // The number ends here, if there is one.
 fn end_number(scan: Scan, room: &mut [u64]) -> Scan {
     let mut next = scan;
     next.number = 0;
     next.digits = false;
     next.repeated = false;
+    next.bytes = 0;
+    next.behind = 56;
     if !scan.digits {
         return next;
     }
@@ -86,7 +117,7 @@ fn end_number(scan: Scan, room: &mut [u64]) -> Scan {
         put_all(room, scan.end, next.end, scan.value);
         return next;
     }
-    put(room, scan.end, scan.number);
+    put(room, scan.end, number_read(scan));
     next
 }
 
@@ -120,6 +151,9 @@ fn take_byte(scan: Scan, byte: u8, room: &mut [u64]) -> Scan {
         next.repeated = true;
         return next;
     }
+    if byte == b'.' {
+        return end_byte(scan);
+    }
     next = end_number(scan, room);
     if byte == b'|' {
         put(room, next.field, next.end as u64);
@@ -145,6 +179,8 @@ fn scan_fields(text: &[u8], from: usize, end: usize, room: &mut [u64]) -> Scan {
         digits: false,
         value: 0,
         repeated: false,
+        bytes: 0,
+        behind: 56,
     };
     let mut i = from;
     while i < end {
@@ -211,24 +247,30 @@ pub(crate) fn small(n: u64) -> u32 {
     n as u32
 }
 
-// The numbers of a field, at the front of a list; and how many there are, at most as many as the list can hold.
-fn list(line: &[u64], field: usize, list: &mut [u32]) -> usize
-    ensures { λ r. ⌜ r ≤ length (now (list .exit)) ⌝ }
-{
-    let n = count(line, field);
+// The numbers of a line as 32 bits, each at its place.
+pub(crate) fn copy_small(line: &[u64], list: &mut [u32]) {
     let mut i: usize = 0;
     while i < list.len() {
-        if n <= i {
-            return i;
+        if line.len() <= i {
+            return;
         }
-        list[i] = small(number(line, field, i));
+        list[i] = small(line[i]);
         i += 1;
     }
-    i
 }
 
-// The numbers of a field as 32 bits, in the room that is lent: as many as it can hold.
-pub(crate) fn numbers_of<'a>(line: &[u64], field: usize, room: &'a mut [u32]) -> &'a mut [u32] {
-    let n = list(line, field, room);
-    &mut room[0..n]
+// The numbers of a field as 32 bits, where `list` has those of the line; none where it is not there.
+pub(crate) fn list_of<'a>(line: &[u64], list: &'a [u32], field: usize) -> &'a [u32] {
+    if 14 < field {
+        return &list[0..0];
+    }
+    let from = begin(line, field);
+    let end = begin(line, field + 1);
+    if end < from {
+        return &list[0..0];
+    }
+    if list.len() < end {
+        return &list[0..0];
+    }
+    &list[from..end]
 }

@@ -3,9 +3,10 @@
 //     compiled NAME | numbers of the rooms for run lengths, accesses and edges | answer | tokens | run lengths | accesses | edges
 //
 // where the answer is 0 or the number of a refusal. Before the call every number of the rooms is 7, and after it every one of them is compared.
+use crate::lines::copy_small;
 use crate::lines::count;
+use crate::lines::list_of;
 use crate::lines::number;
-use crate::lines::numbers_of;
 use crate::lines::small;
 use crate::numbers::say;
 use crate::report::Report;
@@ -52,9 +53,9 @@ fn say_size(size: Size) {
 
 // The call on the tokens of a line.
 fn expanded(line: &[u64], runs: &mut [u32], accesses: &mut [u32], edges: &mut [u32]) -> Size {
-    let mut token_room: [u32; 64] = [0; 64];
-    let tokens = numbers_of(line, 3, &mut token_room);
-    size_said(expand(tokens, runs, accesses, edges))
+    let mut list: [u32; 4352] = [0; 4352];
+    copy_small(line, &mut list);
+    size_said(expand(list_of(line, &list, 3), runs, accesses, edges))
 }
 
 // The number at place `at` of a field, and `rest` past its end.

@@ -9,6 +9,7 @@ use crate::numbers::say;
 use crate::report::Report;
 
 mod asked;
+mod calls;
 mod cases;
 mod cores;
 mod cycles;
@@ -20,12 +21,10 @@ mod lines;
 mod listings;
 mod nights;
 mod numbers;
-mod pairs;
 mod report;
 mod rooms;
 mod said;
 mod shown;
-mod states;
 mod tables;
 mod traces;
 

@@ -3,51 +3,57 @@
 //     overnight NAME | words of the rows and of the working room, allowance, answer | numbers | rows | report
 //
 // where the answer is 0 or the number of a refusal, which leaves all three as they were.
+use crate::lines::copy_small;
+use crate::lines::count;
 use crate::lines::field_of;
+use crate::lines::list_of;
 use crate::lines::number;
-use crate::lines::numbers_of;
-use crate::lines::put;
 use crate::numbers::say_answer;
 use crate::report::Report;
 use crate::rooms::first;
+use crate::rooms::has_only;
+use crate::rooms::is_cleared;
 use crate::rooms::is_left;
 use crate::rooms::mark;
 use nightly::Built;
 use nightly::build;
 
-// The number of a refusal; or 0, and the report in eight words.
-fn said(answer: Built, words: &mut [u64]) -> u64 {
+// The answer and the report; a refusal has none.
+fn compare_built(answer: Built, line: &[u64], report: Report) -> Report {
+    let expected = number(line, 1, 3);
     match answer {
-        Built::Refused(why) => why.number(),
+        Built::Refused(why) => {
+            let refusal = why.number();
+            say_answer(refusal);
+            report
+                .compared(refusal == expected)
+                .compared(count(line, 4) == 0)
+        }
         Built::Report(found) => {
-            put(words, 0, found.accepted);
-            put(words, 1, found.text);
-            put(words, 2, found.ways);
-            put(words, 3, found.limit);
-            put(words, 4, found.tracked);
-            put(words, 5, found.accesses);
-            put(words, 6, found.graph);
-            put(words, 7, found.aside);
-            0
+            say_answer(0);
+            let words: [u64; 8] = [
+                found.accepted,
+                found.text,
+                found.ways,
+                found.limit,
+                found.tracked,
+                found.accesses,
+                found.graph,
+                found.aside,
+            ];
+            report
+                .compared(expected == 0)
+                .compared(has_only(&words, field_of(line, 4)))
         }
     }
 }
 
-// The answer, and the three rooms.
-fn compare(
-    refusal: u64,
-    line: &[u64],
-    rows: &[u64],
-    work: &[u64],
-    words: &[u64],
-    report: Report,
-) -> Report {
+// The answer, and both rooms.
+fn compare(built: Built, line: &[u64], rows: &[u64], work: &[u64], report: Report) -> Report {
     let answer = number(line, 1, 3);
-    report
-        .compared(refusal == answer)
+    compare_built(built, line, report)
         .compared(is_left(answer, rows, field_of(line, 3)))
-        .compared(is_left(answer, work, &[]))
-        .compared(is_left(answer, words, field_of(line, 4)))
+        .compared(is_cleared(answer, work))
 }
 
 // A line in these rooms.
@@ -58,21 +64,18 @@ fn night_in(
     work: &mut [u64],
     report: Report,
 ) -> Report {
-    let mut words: [u64; 8] = [0; 8];
     mark(rows);
     mark(work);
-    mark(&mut words);
-    let refusal = said(build(numbers, number(line, 1, 2), rows, work), &mut words);
-    say_answer(refusal);
-    compare(refusal, line, rows, work, &words, report)
+    let built = build(numbers, number(line, 1, 2), rows, work);
+    compare(built, line, rows, work, report)
 }
 
 pub(crate) fn night_line(line: &[u64], report: Report) -> Report {
-    let mut list: [u32; 4300] = [0; 4300];
+    let mut list: [u32; 4352] = [0; 4352];
     let mut row_room: [u64; 1300] = [0; 1300];
     let mut work_room: [u64; 26250] = [0; 26250];
-    let numbers = numbers_of(line, 2, &mut list);
+    copy_small(line, &mut list);
     let rows = first(&mut row_room, number(line, 1, 0));
     let work = first(&mut work_room, number(line, 1, 1));
-    night_in(line, numbers, rows, work, report)
+    night_in(line, list_of(line, &list, 2), rows, work, report)
 }

@@ -12,12 +12,11 @@ pub(crate) const RARE: u64 = 281474;
 pub(crate) fn say(words: &[u8], n: u64) {
     io::write_all(1, words);
     io::print_decimal(1, n);
-    io::write_all(1, b"\n");
+    end_line();
 }
 
-pub(crate) fn say_both(what: &[u8], name: &[u8]) {
-    io::write_all(1, what);
-    io::write_all(1, name);
+pub(crate) fn end_line() {
+    io::write_all(1, b"\n");
 }
 
 // What a call answered, in words.

@@ -65,6 +65,11 @@ pub(crate) fn first<'a>(room: &'a mut [u64], n: u64) -> &'a mut [u64] {
     &mut room[0..end]
 }
 
+// Whether a working room is as a call leaves it that answers `answer`: zero, or after a refusal as it was.
+pub(crate) fn is_cleared(answer: u64, room: &[u64]) -> bool {
+    is_left(answer, room, &[])
+}
+
 // The same of 32 bits.
 pub(crate) fn first_numbers<'a>(room: &'a mut [u32], n: u64) -> &'a mut [u32] {
     let end = n as usize;

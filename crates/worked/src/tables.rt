@@ -7,7 +7,7 @@
 //
 // where the answer is 0 or the number of a refusal.
 use crate::asked::every_question;
-use crate::asked::no_spread;
+use crate::asked::spread;
 use crate::cycles::above;
 use crate::cycles::budget;
 use crate::cycles::every_core;
@@ -35,42 +35,42 @@ const HALF_STEP: u64 = 2199023255552;
 
 // A table, with the shortest and the longest path that it can have, on every core.
 fn table_in_cycles(words: &[u64], n: usize, report: Report) -> Report {
-    let last = last_count(words);
+    let last = last_count(words, n);
     let end = plus(last, 1);
-    let long = every_core(words, n, 4096, last, end, words, report);
-    let exact = every_core(words, n, last, last, end, words, long);
+    let long = every_core(words, n, 4096, last, end, report);
+    let exact = every_core(words, n, last, last, end, long);
     if last == 0 {
         return exact;
     }
     refused(words, n, 11, last - 1, 7, exact)
 }
 
-// No table: 16 before 4 before 7.
-fn row_in_cycles(words: &[u64], n: usize, report: Report) -> Report {
+// No table, which is refused with `answer`: 16 and 4 come before it.
+fn row_in_cycles(words: &[u64], n: usize, answer: u64, report: Report) -> Report {
     let core = refused(words, n, 12, 4097, 16, report);
     let long = refused(words, n, 11, 4097, 4, core);
-    refused(words, n, 11, 4096, 7, long)
+    refused(words, n, 11, 4096, answer, long)
 }
 
-// Every question about the first `n` states of `words` is refused with 7, in long room and in none.
-fn row_refused(words: &[u64], n: usize, report: Report) -> Report {
+// Every question about the first `n` states of `words` is refused with `answer`, in long room and in none.
+fn row_refused(words: &[u64], n: usize, answer: u64, report: Report) -> Report {
     let units = amount_said(above_in(words, n, 0));
     let misses = count_said(smallest_budget_in(words, n, 0));
     let asked = report
-        .compared(units.refusal == 7)
-        .compared(misses.refusal == 7);
-    let cycles = row_in_cycles(words, n, asked);
-    let long = no_spread(words, n, 4100, 7, cycles);
-    no_spread(words, n, 0, 7, long)
+        .compared(units.refusal == answer)
+        .compared(misses.refusal == answer);
+    let cycles = row_in_cycles(words, n, answer, asked);
+    let long = spread(words, n, 4100, answer, cycles);
+    spread(words, n, 0, answer, long)
 }
 
 // Every question about the first `n` states of `words`, which are a table where `answer` is 0.
 fn row(words: &[u64], n: usize, answer: u64, report: Report) -> Report {
     if answer == 0 {
-        let asked = every_question(words, n, 4100, words, report);
+        let asked = every_question(words, n, 4100, report);
         return table_in_cycles(words, n, asked);
     }
-    row_refused(words, n, report)
+    row_refused(words, n, answer, report)
 }
 
 // The row of a line, for each of its counts.
@@ -127,8 +127,8 @@ pub(crate) fn time_line(line: &[u64], words: &[u64], report: Report) -> Report {
     let said = amount_said(above_cycles_in(words, n, core, longest, 0));
     say_answer(said.refusal);
     if answer == 0 {
-        let units = above(words, n, core, longest, 0, words, report);
-        return budget(words, n, core, longest, 0, words, units);
+        let units = above(words, n, core, longest, 0, report);
+        return budget(words, n, core, longest, 0, units);
     }
     refused(words, n, core, longest, answer, report)
 }

@@ -10,10 +10,11 @@
 //
 // where the answer is 0 or the number of a refusal, which leaves the room as it was. The value is how many accesses were read, or the place of
 // a damaged block.
+use crate::lines::copy_small;
 use crate::lines::count;
 use crate::lines::field_of;
+use crate::lines::list_of;
 use crate::lines::number;
-use crate::lines::numbers_of;
 use crate::listings::holds;
 use crate::listings::rest_of;
 use crate::numbers::say;
@@ -71,9 +72,9 @@ fn put_bytes(trace: &mut [u8], line: &[u64]) {
 
 // The accesses of a line are written.
 fn write_list(trace: &mut [u8], line: &[u64]) -> Said {
-    let mut room: [u32; 4100] = [0; 4100];
-    let accesses = numbers_of(line, 3, &mut room);
-    blocks_said(write_trace(accesses, trace))
+    let mut list: [u32; 4352] = [0; 4352];
+    copy_small(line, &mut list);
+    blocks_said(write_trace(list_of(line, &list, 3), trace))
 }
 
 // Whether the trace is a block of zeros but for the bytes of a line.

@@ -2,8 +2,8 @@
 use mathlib.Core.Path.{sym, _∙_}
 use borrow.Author.Needs.{needs}
 use denote.Ref.{now}
-use Rattle.parts.specs.Places.{Ends}
-use Rattle.parts.proofs.Places.{ends-in-order, not-ends}
+use Rattle.curve_numbers.specs.Places.{Ends}
+use Rattle.curve_numbers.proofs.Places.{ends-in-order, not-ends}
 use Rattle.parts.proofs.Calls.{longest-incomplete}
 use Rattle.parts.proofs.longest_of_numbers.Statement.{statement}
 use Rattle.parts.proofs.longest_of_numbers.Tie as tie

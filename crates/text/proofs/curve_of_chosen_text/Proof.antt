@@ -1,6 +1,6 @@
 -- `curve_of_chosen_text` meets its contract: the curve is the text that is wanted, of numbers that begin with a choice.
 use borrow.Author.Needs.{needs}
-use Rattle.text.specs.Rooms.{afterChosenText}
+use Rattle.printed.specs.Rooms.{afterChosenText}
 use Rattle.text.proofs.curve_of_chosen_text.Statement.{statement}
 use Rattle.text.proofs.curve_of_chosen_text.Tie as tie
 

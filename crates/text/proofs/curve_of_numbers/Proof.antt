@@ -1,6 +1,6 @@
 -- `curve_of_numbers` meets its contract: the curve is the text that is wanted.
 use borrow.Author.Needs.{needs}
-use Rattle.text.specs.Rooms.{afterNumbers}
+use Rattle.printed.specs.Rooms.{afterNumbers}
 use Rattle.text.proofs.curve_of_numbers.Statement.{statement}
 use Rattle.text.proofs.curve_of_numbers.Tie as tie
 

@@ -1,6 +1,6 @@
 -- `curve_of_text` meets its contract: the curve is the text that is wanted.
 use borrow.Author.Needs.{needs}
-use Rattle.text.specs.Rooms.{afterText}
+use Rattle.printed.specs.Rooms.{afterText}
 use Rattle.text.proofs.curve_of_text.Statement.{statement}
 use Rattle.text.proofs.curve_of_text.Tie as tie
 

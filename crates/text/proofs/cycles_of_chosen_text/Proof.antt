@@ -1,6 +1,6 @@
 -- `cycles_of_chosen_text` meets its contract: the curves in cycles are the text that is wanted, of numbers that begin with a choice.
 use borrow.Author.Needs.{needs}
-use Rattle.text.specs.Rooms.{afterCyclesOfChosenText}
+use Rattle.printed.specs.Rooms.{afterCyclesOfChosenText}
 use Rattle.text.proofs.cycles_of_chosen_text.Statement.{statement}
 use Rattle.text.proofs.cycles_of_chosen_text.Tie as tie
 

@@ -1,6 +1,6 @@
 -- `cycles_of_numbers` meets its contract: the curves in cycles are the text that is wanted.
 use borrow.Author.Needs.{needs}
-use Rattle.text.specs.Rooms.{afterCyclesOfNumbers}
+use Rattle.printed.specs.Rooms.{afterCyclesOfNumbers}
 use Rattle.text.proofs.cycles_of_numbers.Statement.{statement}
 use Rattle.text.proofs.cycles_of_numbers.Tie as tie
 

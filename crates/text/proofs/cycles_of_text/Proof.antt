@@ -1,6 +1,6 @@
 -- `cycles_of_text` meets its contract: the curves in cycles are the text that is wanted.
 use borrow.Author.Needs.{needs}
-use Rattle.text.specs.Rooms.{afterCyclesOfText}
+use Rattle.printed.specs.Rooms.{afterCyclesOfText}
 use Rattle.text.proofs.cycles_of_text.Statement.{statement}
 use Rattle.text.proofs.cycles_of_text.Tie as tie
 

@@ -5,12 +5,12 @@ use borrow.Author.Needs.{needs}
 use borrow.Author.Tests.{not-true, not-false}
 use denote.Ref.{now}
 use lib.ListN.{length}
-use Rattle.text.specs.Printed.{ofNumbers, numbersWorked}
-use Rattle.text.specs.Choices.{plain}
-use Rattle.text.specs.Rooms.{Rooms, enough}
-use Rattle.text.specs.Wanted.{wantedText, wantedBytes}
-use Rattle.text.proofs.Lengths.{numbers-long}
-use Rattle.text.proofs.Rooms.{rooms-long, written-none, written-all}
+use Rattle.printed.specs.Printed.{ofNumbers, numbersWorked}
+use Rattle.printed.specs.Choices.{plain}
+use Rattle.printed.specs.Rooms.{Rooms, enough}
+use Rattle.printed.specs.Wanted.{wantedText, wantedBytes}
+use Rattle.printed.proofs.Lengths.{numbers-long}
+use Rattle.printed.proofs.Rooms.{rooms-long, written-none, written-all}
 use Rattle.text.proofs.write_numbers.Statement.{statement}
 use Rattle.text.proofs.write_numbers.Tie as tie
 

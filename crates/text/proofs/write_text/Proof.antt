@@ -7,11 +7,11 @@ use denote.Ref.{now}
 use lib.ListN.{length}
 use Rattle.writing.specs.Told.{ofText, textWorked}
 use Rattle.writing.proofs.Told.{cleared}
-use Rattle.text.specs.Choices.{ofForm, formWorked}
-use Rattle.text.specs.Rooms.{Rooms, enough}
-use Rattle.text.specs.Wanted.{wantedText, wantedBytes}
-use Rattle.text.proofs.Lengths.{form-text-long}
-use Rattle.text.proofs.Rooms.{rooms-long, written-all, few-numbers, text-none, text-all}
+use Rattle.printed.specs.Choices.{ofForm, formWorked}
+use Rattle.printed.specs.Rooms.{Rooms, enough}
+use Rattle.printed.specs.Wanted.{wantedText, wantedBytes}
+use Rattle.printed.proofs.Lengths.{form-text-long}
+use Rattle.printed.proofs.Rooms.{rooms-long, written-all, few-numbers, text-none, text-all}
 use Rattle.text.proofs.write_text.Statement.{statement}
 use Rattle.text.proofs.write_text.Tie as tie
 

@@ -6,10 +6,10 @@ use Rattle.enumerate.proofs.examine.all_tracked.Statement.{statement}
 use Rattle.enumerate.proofs.examine.all_tracked.Tie as tie
 
 abbrev Inv-loop : tie.InvT-loop
-Inv-loop tracked accesses i₀ i = i ≤ length accesses
+Inv-loop row tracked accesses i₀ i = i ≤ length accesses
 
 abbrev μ-loop : tie.MeasureT-loop
-μ-loop tracked accesses i₀ i = length accesses - i
+μ-loop row tracked accesses i₀ i = length accesses - i
 
 pub all-tracked-spec : {M : Type 1} → statement M
-all-tracked-spec = tie.close (tie.spec Inv-loop μ-loop (λ c. search needs) (λ c. search needs) (λ c. search needs) (λ c κs. search needs) (λ c. search needs) (λ c. search needs) (λ c. search needs) (λ c. search needs) (λ c. search needs))
+all-tracked-spec = tie.close (tie.spec Inv-loop μ-loop (λ c κs. search needs) (λ c κs. search needs) (λ c. search needs) (λ c. search needs) (λ c. search needs) (λ c κs. search needs) (λ c. search needs) (λ c. search needs) (λ c. search needs) (λ c. search needs) (λ c. search needs))

@@ -7,10 +7,10 @@ use Rattle.enumerate.proofs.paths.copy.Statement.{statement}
 use Rattle.enumerate.proofs.paths.copy.Tie as tie
 
 abbrev Inv-loop : tie.InvT-loop
-Inv-loop path₀ to accesses from count i₀ path i = (i ≤ count) × (length path ≡ length path₀)
+Inv-loop path₀ size accesses from count to i₀ path i = (i ≤ count) × (length path ≡ length path₀)
 
 abbrev μ-loop : tie.MeasureT-loop
-μ-loop path₀ to accesses from count i₀ path i = count - i
+μ-loop path₀ size accesses from count to i₀ path i = count - i
 
 pub copy-spec : {M : Type 1} → statement M
-copy-spec = tie.close (tie.spec Inv-loop μ-loop (λ c. search needs) (λ c κs. search needs) (λ c κs. search needs) (λ c κs. search needs) (λ c κs. search needs) (λ c. search needs) (λ c. search needs) (λ c. search needs) (λ c. search needs) (λ c. search needs))
+copy-spec = tie.close (tie.spec Inv-loop μ-loop (λ c κs. search needs) (λ c. search needs) (λ c κs. search needs) (λ c κs. search needs) (λ c κs. search needs) (λ c κs. search needs) (λ c. search needs) (λ c. search needs) (λ c. search needs) (λ c. search needs) (λ c. search needs))

@@ -5,10 +5,10 @@ use Rattle.enumerate.proofs.sequences.count_each.Statement.{statement}
 use Rattle.enumerate.proofs.sequences.count_each.Tie as tie
 
 abbrev Inv-loop : tie.InvT-loop
-Inv-loop counts₀ found path tracked sets ways revision all draws₀ counts draws = draws ≤ all
+Inv-loop counts₀ found path all draws₀ counts draws = draws ≤ all
 
 abbrev μ-loop : tie.MeasureT-loop
-μ-loop counts₀ found path tracked sets ways revision all draws₀ counts draws = all - draws
+μ-loop counts₀ found path all draws₀ counts draws = all - draws
 
 pub count-each-spec : {M : Type 1} → statement M
 count-each-spec = tie.close (tie.spec Inv-loop μ-loop (λ c. search needs) (λ c κs. search needs) (λ c κs. search needs) (λ c. search needs) (λ c. search needs) (λ c. search needs) (λ c. search needs))

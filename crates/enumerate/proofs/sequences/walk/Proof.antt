@@ -6,10 +6,10 @@ use Rattle.enumerate.proofs.sequences.walk.Statement.{statement}
 use Rattle.enumerate.proofs.sequences.walk.Tie as tie
 
 abbrev Inv-loop : tie.InvT-loop
-Inv-loop path tracked sets ways revision draws cache₀ misses₀ left₀ i₀ cache misses left i = i ≤ length path
+Inv-loop path draws told ways accesses cache₀ misses₀ left₀ i₀ cache misses left i = i ≤ length accesses
 
 abbrev μ-loop : tie.MeasureT-loop
-μ-loop path tracked sets ways revision draws cache₀ misses₀ left₀ i₀ cache misses left i = length path - i
+μ-loop path draws told ways accesses cache₀ misses₀ left₀ i₀ cache misses left i = length accesses - i
 
 pub walk-spec : {M : Type 1} → statement M
-walk-spec = tie.close (tie.spec Inv-loop μ-loop (λ c. search needs) (λ c. search needs) (λ c. search needs) (λ c κs. search needs) (λ c κs. search needs) (λ c κs. search needs) (λ c κs. search needs) (λ c. search needs) (λ c. search needs) (λ c. search needs) (λ c κs. search needs) (λ c κs. search needs) (λ c. search needs))
+walk-spec = tie.close (tie.spec Inv-loop μ-loop (λ c κs. search needs) (λ c κs. search needs) (λ c κs. search needs) (λ c. search needs) (λ c κs. search needs) (λ c. search needs) (λ c. search needs) (λ c κs. search needs) (λ c κs. search needs) (λ c κs. search needs) (λ c. search needs) (λ c. search needs) (λ c. search needs) (λ c κs. search needs) (λ c κs. search needs) (λ c κs. search needs) (λ c. search needs))

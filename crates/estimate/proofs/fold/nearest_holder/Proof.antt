@@ -7,6 +7,7 @@ use denote.Ref.{now}
 use lib.ListN.{length, take}
 use lib.Seq.{length-take-le, getD-take}
 use borrow.Author.Needs.{needs}
+use borrow.Author.Tests.{leb-true}
 use Rattle.rules.specs.Table.{noState}
 use Rattle.words.specs.Tables.{tableOf}
 use Rattle.words.proofs.Tables.{fits-table}
@@ -33,20 +34,20 @@ loop-holds c =
 
 returns : tie.Need-returns Inv-loop μ-loop
 returns c =
-    let l = c .before .before in
+    let l = c .before .before .before in
     let b = l .before .before .before .before in
     let a = b .args in
     let t = tableOf (now (a .words)) in
     let room : a .n ≤ length t = fits-table (now (a .words)) (a .n) (omega arith) in
     let long = length-take-le (a .n) t room in
-    seen-stop (a .s) (take (a .n) t) (a .at) (omega arith) (omega (arith, long)) _ _ _ (l .loop .inv .1) (omega (arith, long)) (c .if1 .taken) (b .pre .3)
+    seen-stop (a .s) (take (a .n) t) (a .at) (omega arith) (omega (arith, long)) _ _ _ (l .loop .inv .1) (omega (arith, long)) (leb-true _ _ (sym (c .before .none-nearer .ensures) ∙ c .if1 .taken)) (b .pre .3)
 
 loop-again : tie.Need-loop-again Inv-loop μ-loop
 loop-again c =
-    let l = c .before .before .before .before in
+    let l = c .before .before .before .before .before in
     let a = l .before .before .before .before .args in
     let t = tableOf (now (a .words)) in
-    let here = sym (getD-take (a .n) t (l .loop .j) noState (c .before .before .before .loop-test .taken)) in
+    let here = sym (getD-take (a .n) t (l .loop .j) noState (c .before .before .before .before .loop-test .taken)) in
     let said = c .before .is-nearer .ensures in
     let h = l .loop .inv .1 in (
       search needs,
@@ -75,6 +76,7 @@ nearest-holder-spec =
     (λ c κs. search needs)
     (λ c. search needs)
     loop-holds
+    (λ c κs. search needs)
     returns
     (λ c κs. search needs)
     (λ c κs. search needs)

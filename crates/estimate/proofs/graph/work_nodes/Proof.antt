@@ -41,8 +41,8 @@ entries s = let a = s .args in entryOf (now (a .counts)) (now (a .rows))
 
 loop-holds : tie.Need-loop-holds Inv-loop μ-loop
 loop-holds c =
-    let s = c .before .before .before .before .before .before .before in
-    let n = nodes-start (entries s) (given s) (tableOf (now (s .args .work))) in
+    let s = c .before .before .before .before .before .before .before .before in
+    let n = nodes-start (entries s) (given s) (tableOf (now (s .args .work))) _ (c .aside-at-start .ensures) in
     (search needs, refl, offset-start (now (s .args .runs)), n .0, refl, λ p l. absurd (not-suc-le-zero l), n .1, n .2)
 
 cast-to : tie.Need-cast-to Inv-loop μ-loop
@@ -50,22 +50,22 @@ cast-to c = omega (arith, c .shared-slice-known7 .given (c .before .before .loop
 
 add-to : tie.Need-add-to Inv-loop μ-loop
 add-to c =
-    let s = c .before .before .before .before .before .before .before .before .before .before in
+    let s = c .before .before .before .before .before .before .before .before .before .before .before in
     omega (arith, run-within (given s) (s .pre .1) (c .before .before .loop .j) (c .before .loop-test .taken), c .before .before .loop .inv .2, s .pre .1 .few-accesses)
 
 mul-work-node : tie.Need-mul-work-node Inv-loop μ-loop
 mul-work-node c =
-    let s = c .before .before .before .before .before .before .before .before .before .before .before .before in
+    let s = c .before .before .before .before .before .before .before .before .before .before .before .before .before in
     omega (arith, run-within (given s) (s .pre .1) (c .before .before .before .before .loop .j) (c .before .before .before .loop-test .taken), c .before .before .before .before .loop .inv .2, s .pre .1 .few-accesses)
 
 part-work-node-end : tie.Need-part-work-node-end Inv-loop μ-loop
 part-work-node-end c =
-    let s = c .before .before .before .before .before .before .before .before .before .before .before .before in
+    let s = c .before .before .before .before .before .before .before .before .before .before .before .before .before in
     omega (arith, run-within (given s) (s .pre .1) (c .before .before .before .before .loop .j) (c .before .before .before .loop-test .taken), c .before .before .before .before .loop .inv .2)
 
 work-node-requires : tie.Need-work-node-requires Inv-loop μ-loop
 work-node-requires c κs =
-    let s = c .before .before .before .before .before .before .before .before .before .before .before .before .before in
+    let s = c .before .before .before .before .before .before .before .before .before .before .before .before .before .before in
     let l = c .before .before .before .before .before .loop in
     let ok = s .pre .1 in
     let here = c .before .before .before .before .loop-test .taken in
@@ -78,24 +78,31 @@ work-node-requires c κs =
 
 mul-last-after : tie.Need-mul-last-after Inv-loop μ-loop
 mul-last-after c =
-    let s = c .before .before .before .before .before .before .before .before .before .before .before .before .before .before .before .before in
+    let s = c .before .before .before .before .before .before .before .before .before .before .before .before .before .before .before .before .before in
     omega (arith, run-within (given s) (s .pre .1) (c .before .before .before .before .before .before .before .before .loop .j) (c .before .before .before .before .before .before .before .loop-test .taken), c .before .before .before .before .before .before .before .before .loop .inv .2, s .pre .1 .few-accesses)
 
 part-last-after-end : tie.Need-part-last-after-end Inv-loop μ-loop
 part-last-after-end c =
-    let s = c .before .before .before .before .before .before .before .before .before .before .before .before .before .before .before .before in
+    let s = c .before .before .before .before .before .before .before .before .before .before .before .before .before .before .before .before .before in
     omega (arith, run-within (given s) (s .pre .1) (c .before .before .before .before .before .before .before .before .loop .j) (c .before .before .before .before .before .before .before .loop-test .taken), c .before .before .before .before .before .before .before .before .loop .inv .2)
 
 mul-lasts : tie.Need-mul-lasts Inv-loop μ-loop
-mul-lasts c = let s = c .before .before .before .before .before .before .before .before .before .before .before .before .before .before .before .before .before .before in omega (arith, c .before .before .before .before .before .before .before .before .before .loop-test .taken, s .pre .1 .few-nodes)
+mul-lasts c = let s = c .before .before .before .before .before .before .before .before .before .before .before .before .before .before .before .before .before .before .before in omega (arith, c .before .before .before .before .before .before .before .before .before .loop-test .taken, s .pre .1 .few-nodes)
 
 -- the array has a place for each node
 array-set-from-lasts : tie.Need-array-set-from-lasts Inv-loop μ-loop
-array-set-from-lasts c = let s = c .before .before .before .before .before .before .before .before .before .before .before .before .before .before .before .before .before .before in omega (arith, c .before .before .before .before .before .before .before .before .before .loop-test .taken, s .pre .1 .few-nodes)
+array-set-from-lasts c = let s = c .before .before .before .before .before .before .before .before .before .before .before .before .before .before .before .before .before .before .before in omega (arith, c .before .before .before .before .before .before .before .before .before .loop-test .taken, s .pre .1 .few-nodes)
+
+-- there is a number behind each node's
+add-joins-to : tie.Need-add-joins-to Inv-loop μ-loop
+add-joins-to c = let s = c .before .before .before .before .before .before .before .before .before .before .before .before .before .before .before .before .before .before .before in omega (arith, c .before .before .before .before .before .before .before .before .before .loop-test .taken, s .pre .1 .few-nodes)
+
+add-j : tie.Need-add-j Inv-loop μ-loop
+add-j c = let s = c .before .before .before .before .before .before .before .before .before .before .before .before .before .before .before .before .before .before .before .before in omega (arith, c .before .before .before .before .before .before .before .before .before .before .loop-test .taken, s .pre .1 .few-nodes)
 
 loop-again : tie.Need-loop-again Inv-loop μ-loop
 loop-again c =
-    let s = c .before .before .before .before .before .before .before .before .before .before .before .before .before .before .before .before .before .before .before in
+    let s = c .before .before .before .before .before .before .before .before .before .before .before .before .before .before .before .before .before .before .before .before in
     let l = c .before .before .before .before .before .before .before .before .before .before .before .loop in
     let i = given s in
     let ok = s .pre .1 in
@@ -118,7 +125,7 @@ loop-again c =
 returns : tie.Need-returns Inv-loop μ-loop
 returns c =
     let l = c .before .loop in
-    let all : l .j ≡ length (now (c .before .before .before .before .before .before .before .before .before .args .runs)) = omega arith in
+    let all : l .j ≡ length (now (c .before .before .before .before .before .before .before .before .before .before .args .runs)) = omega arith in
     rw (← all) (l .inv .3, l .inv .6)
 
 pub work-nodes-spec : {M : Type 1} → statement M
@@ -127,6 +134,7 @@ work-nodes-spec =
     (tie.spec
     Inv-loop
     μ-loop
+    (λ c κs. search needs)
     loop-holds
     (λ c. search needs)
     (λ c. search needs)
@@ -145,9 +153,9 @@ work-nodes-spec =
     (λ c κs. search needs)
     mul-lasts
     array-set-from-lasts
-    (λ c. search needs)
+    add-joins-to
     (λ c κs. search needs)
-    (λ c. search needs)
+    add-j
     (λ c. search needs)
     loop-again
     (λ c. search needs)

@@ -1,7 +1,7 @@
 -- `tally` meets its contract: each count goes on by itself.
 use Prim.Native.Nat.{_+_}
 use borrow.Author.Needs.{needs}
-use Rattle.nightly.specs.Report.{withRow}
+use Rattle.night_rows.specs.Report.{withRow}
 use Rattle.nightly.proofs.counts.tally.Statement.{statement}
 use Rattle.nightly.proofs.counts.tally.Tie as tie
 

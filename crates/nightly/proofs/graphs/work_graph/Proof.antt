@@ -7,8 +7,9 @@ use Rattle.nightly.proofs.graphs.work_graph.Tie as tie
 
 returns : tie.Need-returns
 returns c =
-    let a = c .before .before .before .before .before .before .before .before .before .before .before .before .before .before .before .args in
-    (c .before .before .before .before .before .before .before .before .row-of .ensures, row-stands (a .at) (now (a .rows)) _ _ (c .before .before .put-row .ensures))
+    let start = c .before .before .before .before .before .before .before .before .before .before .before .before .before .before .before in
+    let a = start .args in
+    (c .before .before .before .before .before .before .before .before .row-of .ensures, row-stands (a .at) (now (a .rows)) _ _ (start .pre .0) (c .before .before .put-row .ensures))
 
 pub work-graph-spec : {M : Type 1} → statement M
 work-graph-spec =

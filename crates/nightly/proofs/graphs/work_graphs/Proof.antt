@@ -8,10 +8,11 @@ use borrow.Author.Needs.{needs}
 use denote.Ref.{now}
 use lib.ListN.{length, take, drop, length-take, length-drop}
 use lib.Seq.{drop-drop}
-use Rattle.parts.specs.Places.{endOf}
-use Rattle.parts.proofs.Places.{ends-later}
-use Rattle.nightly.specs.Graphs.{cut}
-use Rattle.nightly.specs.Rows.{rowOf, rowWords}
+use Rattle.curve_numbers.specs.Places.{endOf}
+use Rattle.curve_numbers.proofs.Places.{ends-later}
+use Rattle.night_rows.specs.Graphs.{cut}
+use Rattle.night_rows.specs.Rows.{rowWords}
+use Rattle.nightly.specs.Rows.{rowOf}
 use Rattle.nightly.proofs.Working.{Halfway, halfway-start, all-reported, all-written, few-yet, ends-inside, room-for-row, row-fits, halfway-next}
 use Rattle.nightly.proofs.graphs.work_graphs.Statement.{statement}
 use Rattle.nightly.proofs.graphs.work_graphs.Tie as tie

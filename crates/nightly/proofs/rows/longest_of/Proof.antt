@@ -2,8 +2,8 @@
 use mathlib.Core.Path.{ap, _∙_}
 use borrow.Author.Needs.{needs}
 use denote.Ref.{now}
-use Rattle.parts.specs.declared.Choice.{Choice}
-use Rattle.parts.specs.Parts.{plain}
+use Rattle.curve_numbers.specs.declared.Choice.{Choice}
+use Rattle.curve_numbers.specs.Parts.{plain}
 use Rattle.parts.specs.Call.{numbersLongest}
 use Rattle.parts.proofs.Calls.{longest-told, longest-not-refused}
 use Rattle.nightly.proofs.rows.longest_of.Statement.{statement}

@@ -5,8 +5,8 @@ use borrow.Author.Needs.{needs}
 use denote.Ref.{now}
 use Rattle.rules.specs.declared.State.{State}
 use Rattle.rules.specs.Questions.{smallestBudget}
-use Rattle.parts.specs.declared.Choice.{Choice}
-use Rattle.parts.specs.Parts.{plain}
+use Rattle.curve_numbers.specs.declared.Choice.{Choice}
+use Rattle.curve_numbers.specs.Parts.{plain}
 use Rattle.parts.specs.Call.{numbersLeft}
 use Rattle.parts.proofs.Calls.{Called, called, worked-complete, worked-accepted, worked-table, table-there}
 use Rattle.nightly.proofs.OneRow.{row-long, row-refused, row-finished}
@@ -22,7 +22,7 @@ left c =
     (c .analyse-numbers .ensures ∙ ap (λ (ch : Choice). numbersLeft ch (now (s .args .numbers)) (now (s .args .result)) (now (s .args .work))) (c .before .before .before .plain-choice .ensures))
 
 returns : tie.Need-returns
-returns c = c .refused .ensures ∙ row-long (c .before .before .before .before .before .args .allowance) (now (c .before .before .before .before .before .args .numbers)) (c .before .if1 .taken)
+returns c = c .refused-row .ensures ∙ row-long (c .before .before .before .before .before .args .allowance) (now (c .before .before .before .before .before .args .numbers)) (c .before .if1 .taken)
 
 longest-of-requires : tie.Need-longest-of-requires
 longest-of-requires c κs =
@@ -40,7 +40,7 @@ returns-2 : tie.Need-returns-2
 returns-2 c =
     let d = c .before .before .before .before .before .before .before .before .before in
     let s = d .before .before .before .before .before .before .before .before in
-    c .refused2 .ensures ∙ row-refused (s .args .allowance) (now (s .args .numbers)) (d .before .before .before .before .if1 .left) _ (left d .answer) _ (c .before .before .before .why .given .1) _ (c .before .number .ensures)
+    c .refused-row2 .ensures ∙ row-refused (s .args .allowance) (now (s .args .numbers)) (d .before .before .before .before .if1 .left) _ (left d .answer) _ (c .before .before .before .why .given .1) _ (c .before .number .ensures)
 
 returns-3 : tie.Need-returns-3
 returns-3 c =

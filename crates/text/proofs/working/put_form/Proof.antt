@@ -2,10 +2,10 @@
 use mathlib.Core.Path.{sym, ap}
 use borrow.Author.Needs.{needs}
 use denote.Ref.{now}
-use Rattle.text.specs.declared.working.Form.{Form}
-use Rattle.text.specs.Choices.{ofForm, formWorked}
-use Rattle.text.specs.Wanted.{wantedText}
-use Rattle.text.proofs.Rooms.{wrote-same}
+use Rattle.printed.specs.declared.Form.{Form}
+use Rattle.printed.specs.Choices.{ofForm, formWorked}
+use Rattle.printed.specs.Wanted.{wantedText}
+use Rattle.printed.proofs.Rooms.{wrote-same}
 use Rattle.text.proofs.working.put_form.Statement.{statement}
 use Rattle.text.proofs.working.put_form.Tie as tie
 

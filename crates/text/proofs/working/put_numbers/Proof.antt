@@ -6,7 +6,7 @@ use Rattle.parts.proofs.Calls.{Called, called}
 use Rattle.writing.proofs.Putting.{put-is}
 use Rattle.writing.proofs.Told.{cleared}
 use Rattle.text.proofs.Printed.{printed-refused, refused-unworked, finished-worked, finished-cleared, left-finished}
-use Rattle.text.proofs.Rooms.{wrote-refused, wrote-worked}
+use Rattle.printed.proofs.Rooms.{wrote-refused, wrote-worked}
 use Rattle.text.proofs.working.put_numbers.Statement.{statement}
 use Rattle.text.proofs.working.put_numbers.Tie as tie
 

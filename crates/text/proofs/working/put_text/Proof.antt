@@ -7,7 +7,7 @@ use denote.Ref.{now}
 use lib.ListN.{length}
 use Rattle.writing.proofs.Putting.{put-is}
 use Rattle.writing.proofs.Told.{text-malformed, malformed-unworked, numbers-few, numbers-long, text-read, read-worked}
-use Rattle.text.proofs.Rooms.{wrote-refused, wrote-same}
+use Rattle.printed.proofs.Rooms.{wrote-refused, wrote-same}
 use Rattle.text.proofs.working.put_text.Statement.{statement}
 use Rattle.text.proofs.working.put_text.Tie as tie
 

@@ -3,9 +3,9 @@ use mathlib.Core.Path.{sym, ap, _∙_}
 use borrow.Author.Needs.{needs}
 use denote.Ref.{now}
 use Rattle.writing.proofs.Putting.{put-is}
-use Rattle.text.specs.declared.working.Wanted.{Wanted}
-use Rattle.text.specs.Printed.{ofNumbers}
-use Rattle.text.specs.Wanted.{wantedText}
+use Rattle.printed.specs.declared.Wanted.{Wanted}
+use Rattle.printed.specs.Printed.{ofNumbers}
+use Rattle.printed.specs.Wanted.{wantedText}
 use Rattle.text.proofs.working.put_wanted.Statement.{statement}
 use Rattle.text.proofs.working.put_wanted.Tie as tie
 

@@ -6,7 +6,7 @@ use borrow.Author.Needs.{needs}
 use denote.Ref.{now}
 use lib.ListN.{length, drop}
 use Rattle.rules.specs.Input.{edgesOf}
-use Rattle.refusals.proofs.Reasons.{edges-next, edges-end}
+use Rattle.graph_check.proofs.Checks.{edges-next, edges-end}
 use Rattle.tight_rules.specs.Rooms.{passes}
 use Rattle.tight_refusals.proofs.rooms.passing.Statement.{statement}
 use Rattle.tight_refusals.proofs.rooms.passing.Tie as tie

@@ -5,10 +5,10 @@ use Rattle.worked.proofs.asked.each_budget.Statement.{statement}
 use Rattle.worked.proofs.asked.each_budget.Tie as tie
 
 abbrev Inv-loop : tie.InvT-loop
-Inv-loop result n end states all₀ b₀ all b = b ≤ end
+Inv-loop words n end all₀ b₀ all b = b ≤ end
 
 abbrev μ-loop : tie.MeasureT-loop
-μ-loop result n end states all₀ b₀ all b = end - b
+μ-loop words n end all₀ b₀ all b = end - b
 
 pub each-budget-spec : {M : Type 1} → statement M
-each-budget-spec = tie.close (tie.spec Inv-loop μ-loop (λ c. search needs) (λ c κs. search needs) (λ c κs. search needs) (λ c κs. search needs) (λ c κs. search needs) (λ c κs. search needs) (λ c. search needs) (λ c. search needs) (λ c. search needs) (λ c. search needs))
+each-budget-spec = tie.close (tie.spec Inv-loop μ-loop (λ c. search needs) (λ c κs. search needs) (λ c. search needs) (λ c. search needs) (λ c. search needs) (λ c. search needs))

@@ -5,10 +5,10 @@ use Rattle.worked.proofs.asked.say_above.Statement.{statement}
 use Rattle.worked.proofs.asked.say_above.Tie as tie
 
 abbrev Inv-loop : tie.InvT-loop
-Inv-loop name result n last b₀ t7 b = b ≤ last
+Inv-loop name result n last b₀ b = b ≤ last
 
 abbrev μ-loop : tie.MeasureT-loop
-μ-loop name result n last b₀ t7 b = last - b
+μ-loop name result n last b₀ b = last - b
 
 pub say-above-spec : {M : Type 1} → statement M
-say-above-spec = tie.close (tie.spec Inv-loop μ-loop (λ c κs. search needs) (λ c. search needs) (λ c κs. search needs) (λ c. search needs) (λ c κs. search needs) (λ c. search needs) (λ c. search needs) (λ c. search needs) (λ c κs. search needs) (λ c. search needs) (λ c κs. search needs) (λ c. search needs))
+say-above-spec = tie.close (tie.spec Inv-loop μ-loop (λ c κs. search needs) (λ c. search needs) (λ c κs. search needs) (λ c. search needs) (λ c κs. search needs) (λ c. search needs) (λ c. search needs) (λ c. search needs) (λ c κs. search needs) (λ c κs. search needs) (λ c. search needs))

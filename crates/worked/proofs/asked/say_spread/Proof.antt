@@ -6,10 +6,10 @@ use Rattle.worked.proofs.asked.say_spread.Statement.{statement}
 use Rattle.worked.proofs.asked.say_spread.Tie as tie
 
 abbrev Inv-loop : tie.InvT-loop
-Inv-loop name room last i₀ t6 i = i ≤ length room
+Inv-loop name room last i₀ i = i ≤ length room
 
 abbrev μ-loop : tie.MeasureT-loop
-μ-loop name room last i₀ t6 i = length room - i
+μ-loop name room last i₀ i = length room - i
 
 pub say-spread-spec : {M : Type 1} → statement M
-say-spread-spec = tie.close (tie.spec Inv-loop μ-loop (λ c κs. search needs) (λ c. search needs) (λ c κs. search needs) (λ c. search needs) (λ c. search needs) (λ c. search needs) (λ c κs. search needs) (λ c. search needs) (λ c. search needs) (λ c. search needs) (λ c. search needs) (λ c κs. search needs) (λ c. search needs))
+say-spread-spec = tie.close (tie.spec Inv-loop μ-loop (λ c κs. search needs) (λ c. search needs) (λ c κs. search needs) (λ c. search needs) (λ c. search needs) (λ c. search needs) (λ c κs. search needs) (λ c. search needs) (λ c. search needs) (λ c. search needs) (λ c κs. search needs) (λ c. search needs))

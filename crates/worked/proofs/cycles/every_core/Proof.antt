@@ -5,10 +5,10 @@ use Rattle.worked.proofs.cycles.every_core.Statement.{statement}
 use Rattle.worked.proofs.cycles.every_core.Tie as tie
 
 abbrev Inv-loop : tie.InvT-loop
-Inv-loop words n longest from end states all₀ core₀ all core = core ≤ 12
+Inv-loop words n longest from end all₀ core₀ all core = core ≤ 12
 
 abbrev μ-loop : tie.MeasureT-loop
-μ-loop words n longest from end states all₀ core₀ all core = 12 - core
+μ-loop words n longest from end all₀ core₀ all core = 12 - core
 
 pub every-core-spec : {M : Type 1} → statement M
 every-core-spec = tie.close (tie.spec Inv-loop μ-loop (λ c. search needs) (λ c κs. search needs) (λ c κs. search needs) (λ c. search needs) (λ c. search needs) (λ c. search needs) (λ c. search needs))

@@ -6,10 +6,10 @@ use Rattle.worked.proofs.cycles.first_cycles.Statement.{statement}
 use Rattle.worked.proofs.cycles.first_cycles.Tie as tie
 
 abbrev Inv-loop : tie.InvT-loop
-Inv-loop states core longest units n least₀ i₀ least i = (i ≤ n) × (n * 3 ≤ length states)
+Inv-loop words n core longest units held least₀ i₀ least i = (i ≤ held) × (held * 5 ≤ length words)
 
 abbrev μ-loop : tie.MeasureT-loop
-μ-loop states core longest units n least₀ i₀ least i = n - i
+μ-loop words n core longest units held least₀ i₀ least i = held - i
 
 pub first-cycles-spec : {M : Type 1} → statement M
-first-cycles-spec = tie.close (tie.spec Inv-loop μ-loop (λ c κs. search needs) (λ c. search needs) (λ c. search needs) (λ c. search needs) (λ c. search needs) (λ c. search needs) (λ c. search needs) (λ c κs. search needs) (λ c. search needs) (λ c. search needs) (λ c. search needs) (λ c. search needs))
+first-cycles-spec = tie.close (tie.spec Inv-loop μ-loop (λ c κs. search needs) (λ c. search needs) (λ c. search needs) (λ c. search needs) (λ c. search needs) (λ c. search needs) (λ c. search needs) (λ c. search needs) (λ c κs. search needs) (λ c. search needs) (λ c. search needs) (λ c. search needs) (λ c. search needs))

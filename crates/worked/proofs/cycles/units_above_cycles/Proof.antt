@@ -6,10 +6,10 @@ use Rattle.worked.proofs.cycles.units_above_cycles.Statement.{statement
 use Rattle.worked.proofs.cycles.units_above_cycles.Tie as tie
 
 abbrev Inv-loop : tie.InvT-loop
-Inv-loop states core longest budget n units₀ i₀ units i = (i ≤ n) × (n * 3 ≤ length states)
+Inv-loop words n core longest budget held units₀ i₀ units i = (i ≤ held) × (held * 5 ≤ length words)
 
 abbrev μ-loop : tie.MeasureT-loop
-μ-loop states core longest budget n units₀ i₀ units i = n - i
+μ-loop words n core longest budget held units₀ i₀ units i = held - i
 
 pub units-above-cycles-spec : {M : Type 1} → statement M
-units-above-cycles-spec = tie.close (tie.spec Inv-loop μ-loop (λ c. search needs) (λ c. search needs) (λ c. search needs) (λ c. search needs) (λ c. search needs) (λ c κs. search needs) (λ c. search needs) (λ c. search needs) (λ c. search needs) (λ c. search needs) (λ c κs. search needs) (λ c κs. search needs) (λ c. search needs) (λ c. search needs) (λ c. search needs) (λ c. search needs))
+units-above-cycles-spec = tie.close (tie.spec Inv-loop μ-loop (λ c. search needs) (λ c. search needs) (λ c. search needs) (λ c. search needs) (λ c. search needs) (λ c. search needs) (λ c κs. search needs) (λ c. search needs) (λ c. search needs) (λ c. search needs) (λ c. search needs) (λ c κs. search needs) (λ c κs. search needs) (λ c. search needs) (λ c. search needs) (λ c. search needs) (λ c. search needs))

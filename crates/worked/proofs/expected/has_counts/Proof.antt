@@ -6,10 +6,10 @@ use Rattle.worked.proofs.expected.has_counts.Statement.{statement}
 use Rattle.worked.proofs.expected.has_counts.Tie as tie
 
 abbrev Inv-loop : tie.InvT-loop
-Inv-loop room states i₀ i = i ≤ length room
+Inv-loop room words n i₀ i = i ≤ length room
 
 abbrev μ-loop : tie.MeasureT-loop
-μ-loop room states i₀ i = length room - i
+μ-loop room words n i₀ i = length room - i
 
 pub has-counts-spec : {M : Type 1} → statement M
 has-counts-spec = tie.close (tie.spec Inv-loop μ-loop (λ c. search needs) (λ c. search needs) (λ c. search needs) (λ c κs. search needs) (λ c. search needs) (λ c. search needs) (λ c. search needs) (λ c. search needs) (λ c. search needs))

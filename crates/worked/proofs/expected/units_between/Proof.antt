@@ -6,10 +6,10 @@ use Rattle.worked.proofs.expected.units_between.Statement.{statement}
 use Rattle.worked.proofs.expected.units_between.Tie as tie
 
 abbrev Inv-loop : tie.InvT-loop
-Inv-loop states low high n units₀ i₀ units i = (i ≤ n) × (n * 3 ≤ length states)
+Inv-loop words n low high held units₀ i₀ units i = (i ≤ held) × (held * 5 ≤ length words)
 
 abbrev μ-loop : tie.MeasureT-loop
-μ-loop states low high n units₀ i₀ units i = n - i
+μ-loop words n low high held units₀ i₀ units i = held - i
 
 pub units-between-spec : {M : Type 1} → statement M
-units-between-spec = tie.close (tie.spec Inv-loop μ-loop (λ c. search needs) (λ c. search needs) (λ c. search needs) (λ c. search needs) (λ c. search needs) (λ c. search needs) (λ c. search needs) (λ c. search needs) (λ c. search needs) (λ c κs. search needs) (λ c κs. search needs) (λ c. search needs) (λ c. search needs) (λ c. search needs) (λ c. search needs))
+units-between-spec = tie.close (tie.spec Inv-loop μ-loop (λ c. search needs) (λ c. search needs) (λ c. search needs) (λ c. search needs) (λ c. search needs) (λ c. search needs) (λ c. search needs) (λ c. search needs) (λ c. search needs) (λ c. search needs) (λ c κs. search needs) (λ c κs. search needs) (λ c. search needs) (λ c. search needs) (λ c. search needs) (λ c. search needs))

@@ -1,14 +1,14 @@
--- `say_above` is safe and ends: each turn writes the answer for one core. Assumes nothing.
+-- `say_above` is safe and ends: each turn writes the answer of one core. Assumes nothing.
 use Prim.Native.Nat.{_≤_, _-_}
 use borrow.Author.Needs.{needs}
 use Rattle.worked.proofs.shown.say_above.Statement.{statement}
 use Rattle.worked.proofs.shown.say_above.Tie as tie
 
 abbrev Inv-loop : tie.InvT-loop
-Inv-loop name words n longest budget core₀ t9 core = core ≤ 12
+Inv-loop name words n longest budget core₀ core = core ≤ 12
 
 abbrev μ-loop : tie.MeasureT-loop
-μ-loop name words n longest budget core₀ t9 core = 12 - core
+μ-loop name words n longest budget core₀ core = 12 - core
 
 pub say-above-spec : {M : Type 1} → statement M
-say-above-spec = tie.close (tie.spec Inv-loop μ-loop (λ c κs. search needs) (λ c. search needs) (λ c κs. search needs) (λ c κs. search needs) (λ c. search needs) (λ c κs. search needs) (λ c. search needs) (λ c κs. search needs) (λ c κs. search needs) (λ c κs. search needs) (λ c. search needs) (λ c. search needs) (λ c. search needs) (λ c. search needs) (λ c κs. search needs) (λ c. search needs))
+say-above-spec = tie.close (tie.spec Inv-loop μ-loop (λ c. search needs) (λ c. search needs) (λ c κs. search needs) (λ c. search needs) (λ c κs. search needs) (λ c κs. search needs) (λ c κs. search needs) (λ c. search needs) (λ c. search needs) (λ c. search needs) (λ c κs. search needs) (λ c. search needs))

@@ -1,0 +1,2 @@
+-- A state's partner in a fold
+pub mod Partners

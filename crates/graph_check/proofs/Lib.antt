@@ -1,0 +1,2 @@
+-- What the checks compute
+pub mod Checks

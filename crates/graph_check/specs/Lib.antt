@@ -1,0 +1,2 @@
+-- The two numbers of an edge
+pub mod Edges

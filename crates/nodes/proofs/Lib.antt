@@ -1,0 +1,2 @@
+-- The block accessed directly before
+pub mod Lasts
