@@ -71,6 +71,23 @@ module _ (y : Place) (gone : List ℕ) (lowers : Lowers y gone) where
       go true e ih = ih e
       go false e ih = refl
 
+  -- the end of contents is never emptied
+  not-gone : (f C : ℕ) → size C ≤ f → among gone (lands f y gone C) ≡ false
+  unfolding lands
+  not-gone zero C l = go (among gone C) refl
+    where
+      go : (b : Bool) → among gone C ≡ b → b ≡ false
+      go true e = absurd (omega (arith, fewer C e))
+      go false e = refl
+  not-gone (suc f) C l = go (among gone C) refl (λ e. not-gone f (lowered places y C) (omega (arith, fewer C e)))
+    where
+      go : (b : Bool) → among gone C ≡ b → (among gone C ≡ true → among gone (lands f y gone (lowered places y C)) ≡ false) → among gone (cond b (lands f y gone (lowered places y C)) C) ≡ false
+      go true e ih = ih e
+      go false e ih = e
+
+  pub lands-out : (C D : ℕ) → among gone D ≡ true → lands places y gone C ≢ D
+  lands-out C D h e = true≢false (sym h ∙ ap (among gone) (sym e) ∙ not-gone places C (size-most C))
+
   -- the words say it, one step at a time
   module _ (k : ℕ) (vs : List ℕ) (goes : (C : ℕ) → C < 2 ^ k → (d : ℕ) → getD vs (2 ^ k + C) d ≡ cond (among gone C) (lowered places y C) C) where
     pub onward-lands : (f C : ℕ) → C < 2 ^ k → onward f (2 ^ k) vs C ≡ lands f y gone C

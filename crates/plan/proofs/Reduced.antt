@@ -33,8 +33,8 @@ use Rattle.tight_rules.proofs.Parts.{Part, lowered-part, lands-part}
 use Rattle.tight_rules.proofs.Few.{sub-le, lands-below, units-most, move-every}
 use Rattle.plan.specs.Plan.{Plan, relabelled, unitsAt, endOf, itself, some, presentIn, start, poured, emptied, light, level, levels, allLevels, planned}
 use Rattle.plan.proofs.Steps.{length-itself, planned-so}
-use Rattle.plan.proofs.Tables.{Positive, onlyTo, having, moved-rising, moved-positive, moved-total, move-alike, move-twice, move-none, units-moved, contents-count}
-use Rattle.plan.proofs.Lands.{Lowers, lowered-less, onward-lands, lands-more}
+use Rattle.plan.proofs.Tables.{Positive, onlyTo, having, moved-rising, moved-positive, moved-total, move-alike, move-twice, move-none, units-moved, never-to, contents-count}
+use Rattle.plan.proofs.Lands.{Lowers, lowered-less, onward-lands, lands-out, lands-more}
 
 -- ---- tables
 
@@ -353,8 +353,11 @@ pub record Reduces (k : ℕ) (y : Place) (w v : Work) (ws : List ℕ) (p : Plan)
   pub part : (C : ℕ) → C < 2 ^ k → Part y (endOf (2 ^ k) (p .words) C) C
   -- the units that are left are those of the table
   pub sums : (C : ℕ) → C < 2 ^ k → unitsAt (p .words) C ≡ unitsIn C (v .table)
-  -- and as many contents have some
+  -- as many contents have some
   pub present : p .present ≡ length (contents (v .table))
+  pub counts : p .present ≡ presentIn (2 ^ k) (p .words)
+  -- and one that goes on has none
+  pub emptied : (C : ℕ) → C < 2 ^ k → getD (p .words) (2 ^ k + C) C < C → unitsAt (p .words) C ≡ 0
   -- the words that follow stay
   pub long : length (p .words) ≡ length ws
   pub behind : (i : ℕ) → 2 ^ k + 2 ^ k ≤ i → (d : ℕ) → getD (p .words) i d ≡ getD ws i d
@@ -368,10 +371,19 @@ module _ (k : ℕ) (y : Place) (w : Work) (ws : List ℕ) (room : 2 ^ k + 2 ^ k 
         part = λ C l. rw (ends C l) (lands-part places y (r .gone) C);
         sums = a .sums;
         present = counted k y w ws r p a;
+        counts = a .counts;
+        emptied = λ C l h. a .sums C l ∙ ap (unitsIn C) (a .table) ∙ never-to (lands places y (r .gone)) C (w .table) (tabled .full) (λ X. lands-out y (r .gone) (a .lowers) X C (gone-on C l h));
         long = a .long;
         behind = a .behind;
       }
     where
+      gone-on : (C : ℕ) → C < 2 ^ k → getD (p .words) (2 ^ k + C) C < C → among (r .gone) C ≡ true
+      gone-on C l h = go (among (r .gone) C) refl
+        where
+          go : (b : Bool) → among (r .gone) C ≡ b → b ≡ true
+          go true e = refl
+          go false e = absurd (omega (arith, a .goes C l C, ap (λ (x : Bool). cond x (lowered places y C) C) e))
+
       ends : (C : ℕ) → C < 2 ^ k → endOf (2 ^ k) (p .words) C ≡ lands places y (r .gone) C
       ends C l = onward-lands y (r .gone) (a .lowers) k (p .words) (a .goes) places C l
 

@@ -222,6 +222,14 @@ pub units-moved : (C D X : ℕ) (T : List State) → total T ≤ whole
 units-moved C D X T full =
     ap (_+ cond (eqb X C) (unitsIn C T) 0) (units-worth X (move (relabelled (onlyTo C D)) T) ∙ moved-worth (onlyTo C D) T (atMask X) full) ∙ units-sum C D X T
 
+-- contents that none are renamed to have no units then
+pub never-to : (g : ℕ → ℕ) (X : ℕ) (T : List State) → total T ≤ whole → ((C : ℕ) → g C ≢ X) → unitsIn X (move (relabelled g) T) ≡ 0
+never-to g X T full never = units-worth X (move (relabelled g) T) ∙ moved-worth g T (atMask X) full ∙ none T
+  where
+    none : (T : List State) → worth (λ C m F. atMask X (g C) m F) T ≡ 0
+    none [] = refl
+    none (s ∷ T) = rw (ne-eqb (g (s .mask)) X (never (s .mask))) (omega (arith, none T))
+
 -- ---- how many contents
 
 order-mask : (s t : State) → order s t ≡ before → s .mask ≤ t .mask

@@ -4,3 +4,5 @@ pub mod Standing
 pub mod Answered
 -- The questions in cycles
 pub mod InCycles
+-- The row of a table
+pub mod OfTable

@@ -18,7 +18,7 @@ use Rattle.rules.specs.Units.{whole}
 use Rattle.rules.specs.AnyTable.{total as totalOf, access as accessOf}
 use Rattle.rules.specs.Contents.{hits, with, without, shared, held, size}
 use Rattle.rules.specs.Filling.{filledAt}
-use Rattle.rules.specs.Table.{state, unitsOf, total}
+use Rattle.rules.specs.Table.{unitsOf, total}
 use Rattle.rules.specs.Step.{atRisk, missed, miss, successors, access}
 use Rattle.rules.specs.Shape.{Every, Aimed, Shaped}
 use Rattle.rules.proofs.Contents.{size-zero}
@@ -27,7 +27,8 @@ use Rattle.rules.proofs.Run.{states-follow}
 use Rattle.rules.proofs.Table.{total-add}
 use Rattle.tight_rules.specs.Rows.{move, narrow, narrowed}
 use Rattle.tight_rules.specs.Run.{stepped}
-use Rattle.tight.specs.Access.{if, risk, evicts, lostTo, missTo, goesTo, restTo, renamed, sends, fromLeft, arrives}
+use Rattle.plan.specs.Plan.{relabelled}
+use Rattle.tight.specs.Access.{if, risk, evicts, lostTo, missTo, goesTo, restTo, further, sends, arrives}
 use Rattle.tight.specs.Grid.{Grid, stateOf, tableOf, rowsOf}
 use Rattle.tight.proofs.Cells.{Test, unitsWhere, isCell, cell, where-append, where-add, where-moved, move-total}
 use Rattle.tight.proofs.Grids.{sum-grid, sum-one, sum-none}
@@ -43,11 +44,11 @@ if-and true b u = refl
 if-and false true u = refl
 if-and false false u = refl
 
-if-zero : (b : Bool) → if b 0 ≡ 0
+pub if-zero : (b : Bool) → if b 0 ≡ 0
 if-zero true = refl
 if-zero false = refl
 
-if-plus : (b : Bool) (u v : ℕ) → if b u + if b v ≡ if b (u + v)
+pub if-plus : (b : Bool) (u v : ℕ) → if b u + if b v ≡ if b (u + v)
 if-plus true u v = refl
 if-plus false u v = refl
 
@@ -56,7 +57,7 @@ sum-if true f es = refl
 sum-if false f [] = refl
 sum-if false f (e ∷ es) = ap (λ (n : ℕ). 0 + n) (sum-if false f es)
 
-sum-zero : (f : ℕ → ℕ) → ((e : ℕ) → f e ≡ 0) → (es : List ℕ) → sumOver f es ≡ 0
+pub sum-zero : (f : ℕ → ℕ) → ((e : ℕ) → f e ≡ 0) → (es : List ℕ) → sumOver f es ≡ 0
 sum-zero f h [] = refl
 sum-zero f h (e ∷ es) = omega (arith, h e, sum-zero f h es)
 
@@ -67,6 +68,24 @@ none-held = empty (held 0) size-zero
     empty : (es : List ℕ) → length es ≡ 0 → es ≡ []
     empty [] h = refl
     empty (e ∷ es) h = absurd (omega arith)
+
+-- numbers that are the same just where two others are
+pub same-number : (a b c d : ℕ) → (a ≡ b → c ≡ d) → (c ≡ d → a ≡ b) → eqb a b ≡ eqb c d
+same-number a b c d f h = same-test (eqb a b) (eqb c d) (λ e. eq-eqb c d (f (eqb-true a b e))) (λ e. eq-eqb a b (h (eqb-true c d e)))
+
+-- of a sum over j only one part counts
+picked : (n i : ℕ) (f : ℕ → ℕ) → sumTo n (λ j. if (eqb j i) (f j)) ≡ if (ltb i n) (f i)
+picked n i f = go (ltb i n) refl
+  where
+    go : (b : Bool) → ltb i n ≡ b → sumTo n (λ j. if (eqb j i) (f j)) ≡ if b (f i)
+    go true e = sum-one n i (λ j. if (eqb j i) (f j)) (ltb-true i n e) (λ j l d. rw (ne-eqb j i d) refl) ∙ rw (eq-eqb i i refl) refl
+    go false e = sum-none n (λ j. if (eqb j i) (f j)) (λ j l. rw (ne-eqb j i (λ s. absurd (omega (arith, ltb-false i n e)))) refl)
+
+-- what comes to cell i of a row that stays, or that goes one cell further on
+pub row-picked : (n : ℕ) (f h : ℕ → ℕ) (b : Bool) (i : ℕ) → sumTo n (λ j. cond b (if (eqb j i) (f j)) (if (eqb (suc j) i) (h j))) ≡ cond b (if (ltb i n) (f i)) (further n h i)
+row-picked n f h true i = picked n i f
+row-picked n f h false zero = sum-none n _ (λ j l. rw (ne-eqb (suc j) 0 (λ s. absurd (omega arith))) refl)
+row-picked n f h false (suc i) = sum-eq n _ (λ j. if (eqb j i) (h j)) (λ j l. rw (eqb·suc-suc j i) refl) ∙ picked n i h
 
 -- ---- the states that follow one
 
@@ -181,11 +200,11 @@ module _ (N Z : ℕ) (ts : List ℕ) (M : ℕ) (some : 0 < N) (few : N ≤ 16) (
   unfolding totalOf
   room-after = omega (arith, successors-total (states-follow N Z ts some few) M x aim T shaped)
 
-  after-full : total (access N x T) ≤ whole
+  pub after-full : total (access N x T) ≤ whole
   unfolding accessOf totalOf
   after-full = omega (arith, total-add (flatMap (successors N x) T) [] room-after, room-after)
 
-  access-lands : (p : Test) → unitsWhere p (access N x T) ≡ sumOver (λ s. unitsWhere p (successors N x s)) T
+  pub access-lands : (p : Test) → unitsWhere p (access N x T) ≡ sumOver (λ s. unitsWhere p (successors N x s)) T
   unfolding accessOf unitsWhere flatMap
   access-lands p = where-add p (flatMap (successors N x) T) [] room-after ∙ omega (arith, each T)
     where
@@ -193,13 +212,13 @@ module _ (N Z : ℕ) (ts : List ℕ) (M : ℕ) (some : 0 < N) (few : N ≤ 16) (
       each [] = refl
       each (s ∷ T) = where-append p (successors N x s) (flatMap (successors N x) T) ∙ ap (unitsWhere p (successors N x s) +_) (each T)
 
-  -- when the blocks outside L have left and the contents were renamed: by any g, of which the reduction's is one
+  -- when the blocks outside L have left and the contents were relabelled: by any g, of which the reduction's is one
   pub cells-after : (a L : ℕ) (g : ℕ → ℕ) (D m : ℕ)
-      → cell D m (move (renamed g) (narrowed L (stepped N x (record { table = T; aside = a })) .table))
+      → cell D m (move (relabelled g) (narrowed L (stepped N x (record { table = T; aside = a })) .table))
       ≡ sumOver (λ s. unitsWhere (landing (λ C. eqb (g (shared C L)) D) m) (successors N x s)) T
   unfolding narrowed stepped
   cells-after a L g D m =
-      where-moved (renamed g) (λ s. refl) (isCell D m) (landing (λ C. eqb (g C) D) m) (λ s. refl) (move (narrow L) (access N x T)) (le-trans (le-of-eq (move-total (narrow L) (λ s. refl) (access N x T) after-full)) after-full)
+      where-moved (relabelled g) (λ s. refl) (isCell D m) (landing (λ C. eqb (g C) D) m) (λ s. refl) (move (narrow L) (access N x T)) (le-trans (le-of-eq (move-total (narrow L) (λ s. refl) (access N x T) after-full)) after-full)
       ∙ where-moved (narrow L) (λ s. refl) (landing (λ C. eqb (g C) D) m) (landing (λ C. eqb (g (shared C L)) D) m) (λ s. refl) (access N x T) after-full
       ∙ access-lands (landing (λ C. eqb (g (shared C L)) D) m)
 
@@ -213,36 +232,18 @@ module _ (N : ℕ) (x : Target) (t : ℕ → Bool) (g : Grid) where
   cell-lands i k j =
       follow-lands N x t (g .base + i) (stateOf g k j)
       ∙ rw (same-number (g .base + j) (g .base + i) j i (λ e. omega arith) (λ e. omega arith), same-number (suc (g .base + j)) (g .base + i) (suc j) i (λ e. omega arith) (λ e. omega arith)) refl
-    where
-      same-number : (a b c d : ℕ) → (a ≡ b → c ≡ d) → (c ≡ d → a ≡ b) → eqb a b ≡ eqb c d
-      same-number a b c d f h = same-test (eqb a b) (eqb c d) (λ e. eq-eqb c d (f (eqb-true a b e))) (λ e. eq-eqb a b (h (eqb-true c d e)))
 
   -- what a row sends on to cell i
   row-lands : (i k : ℕ) → sumTo (g .width) (λ j. unitsWhere (landing t (g .base + i)) (successors N x (stateOf g k j))) ≡ arrives N x t g k i
-  row-lands i k = sum-eq (g .width) _ _ (λ j l. cell-lands i k j) ∙ go (hits x (g .mask k)) i
-    where
-      -- of a sum over j only one part counts
-      picked : (n i : ℕ) (f : ℕ → ℕ) → sumTo n (λ j. if (eqb j i) (f j)) ≡ if (ltb i n) (f i)
-      picked n i f = go (ltb i n) refl
-        where
-          go : (b : Bool) → ltb i n ≡ b → sumTo n (λ j. if (eqb j i) (f j)) ≡ if b (f i)
-          go true e =
-              sum-one n i (λ j. if (eqb j i) (f j)) (ltb-true i n e) (λ j l d. rw (ne-eqb j i d) refl)
-              ∙ rw (eq-eqb i i refl) refl
-          go false e = sum-none n (λ j. if (eqb j i) (f j)) (λ j l. rw (ne-eqb j i (λ s. absurd (omega (arith, ltb-false i n e)))) refl)
-
-      go : (b : Bool) (i : ℕ)
-          → sumTo (g .width) (λ j. cond b (if (eqb j i) (if (t (g .mask k)) (g .cell k j))) (if (eqb (suc j) i) (sends N x t g k j)))
-          ≡ cond b (if (ltb i (g .width)) (if (t (g .mask k)) (g .cell k i))) (fromLeft N x t g k i)
-      go true i = picked (g .width) i (λ j. if (t (g .mask k)) (g .cell k j))
-      go false zero = sum-none (g .width) _ (λ j l. rw (ne-eqb (suc j) 0 (λ s. absurd (omega arith))) refl)
-      go false (suc i) = sum-eq (g .width) _ (λ j. if (eqb j i) (sends N x t g k j)) (λ j l. rw (eqb·suc-suc j i) refl) ∙ picked (g .width) i (sends N x t g k)
+  row-lands i k =
+      sum-eq (g .width) _ _ (λ j l. cell-lands i k j)
+      ∙ row-picked (g .width) (λ j. if (t (g .mask k)) (g .cell k j)) (sends N x t g k) (hits x (g .mask k)) i
 
 -- the cells after an access, as sums over the grid's rows
 module _ (N Z : ℕ) (ts : List ℕ) (M : ℕ) (some : 0 < N) (few : N ≤ 16) (x : Target) (aim : Aimed Z ts x) (g : Grid) (shaped : Every (Shaped N Z ts M) (tableOf g))
     (full : total (tableOf g) ≤ whole) where
   pub grid-after : (a L : ℕ) (h : ℕ → ℕ) (D i : ℕ)
-      → cell D (g .base + i) (move (renamed h) (narrowed L (stepped N x (rowsOf a g .kept)) .table))
+      → cell D (g .base + i) (move (relabelled h) (narrowed L (stepped N x (rowsOf a g .kept)) .table))
       ≡ sumTo (g .count) (λ k. arrives N x (λ C. eqb (h (shared C L)) D) g k i)
   grid-after a L h D i =
       cells-after N Z ts M some few x aim (tableOf g) shaped full a L h D (g .base + i)

@@ -4,7 +4,7 @@ use mathlib.Core.Logic.{_⊎_, inl, inr, ⊎-elim, _≢_}
 use mathlib.Core.Bool.{Bool, true, false, cond}
 use mathlib.Core.List.{List}
 use Prim.Native.Nat.{ℕ, zero, suc, _+_, _-_, _*_, _/_, _%_, _^_, _≤_, _<_}
-use native.Mathlib.Nat.{le-refl, le-trans, lt-of-le-of-lt, le-add-right, le-of-suc-le-suc, eq-or-lt-of-le}
+use native.Mathlib.Nat.{le-refl, le-trans, lt-of-le-of-lt, le-add-right, le-add-left, le-of-suc-le-suc, eq-or-lt-of-le}
 use native.Mathlib.Numerals.{add-one}
 use native.Mathlib.Decide.{ℕ-discrete}
 use native.Mathlib.Omega.{arith}
@@ -51,6 +51,10 @@ module _ (from select to n times : ℕ) (xs ys : List ℕ) (ok : Addable from se
 pub sum-part : (j n : ℕ) (f : ℕ → ℕ) → j ≤ n → sumTo j f ≤ sumTo n f
 sum-part j zero f l = let e : j ≡ 0 = omega arith in rw e (le-refl 0)
 sum-part j (suc n) f l = ⊎-elim (λ e. rw e (le-refl (sumTo (suc n) f))) (λ k. le-trans (sum-part j n f (le-of-suc-le-suc k)) (le-add-right (sumTo n f) (f n))) (eq-or-lt-of-le l)
+
+-- nor is one of its terms
+pub sum-term : (j n : ℕ) (f : ℕ → ℕ) → j < n → f j ≤ sumTo n f
+sum-term j n f l = le-trans (le-add-left (f j) (sumTo j f)) (sum-part (suc j) n f l)
 
 pub sum-next : (from select : ℕ) (w : Words) (j sum : ℕ) → sum ≡ rowSum from select j w → sum + selected w (from + j) (select + j) ≡ rowSum from select (j + 1) w
 sum-next from select w j sum e = rw (add-one j) (ap (_+ selected w (from + j) (select + j)) e)

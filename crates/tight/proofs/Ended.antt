@@ -7,8 +7,7 @@ use mathlib.Core.List.{List}
 use Prim.Native.Nat.{ℕ, zero, suc, _+_, _-_, _*_, _^_, _≤_, _<_}
 use native.Mathlib.Nat.{le-of-suc-le-suc, eq-or-lt-of-le, pos-of-ne-zero}
 use native.Mathlib.Omega.{arith}
-use lib.ListN.{length, set, length-set}
-use lib.Seq.{getD-set-same, getD-set-other}
+use lib.ListN.{length, set}
 use Rattle.basics.proofs.Sums.{sumTo}
 use Rattle.rules.specs.Units.{whole, more}
 use Rattle.rules.specs.declared.State.{State}
@@ -23,6 +22,7 @@ use Rattle.tight.specs.Settling.{both, settledFilled, unlikeTo}
 use Rattle.tight.specs.Ending.{Topped, Bottomed, Staging, FilledPlaces, FilledAll, FilledThere}
 use Rattle.tight.specs.Keeping.{rowIn, KeptTo}
 use Rattle.tight.specs.Ended.{Endable, HeaderPut, SlotEnded, RowsEnded}
+use Rattle.tight.proofs.Writing.{four-long, four-beside, four-first, four-second, four-third, four-fourth}
 use Rattle.tight.proofs.Adding.{sum-part}
 use Rattle.tight.proofs.RowsKept.{row-in}
 use Rattle.tight.proofs.Assembled.{slot-kept, slot-neat}
@@ -74,15 +74,13 @@ pub header-put : (a rows bot wide gone : ℕ) (xs : List ℕ) → a + 4 ≤ leng
     → HeaderPut a rows bot wide gone xs (set (set (set (set xs a rows) (a + 1) (wordsOf xs (a + 1) + bot)) (a + 2) wide) (a + 3) (wordsOf xs (a + 3) + gone))
 header-put a rows bot wide gone xs l =
     record {
-      long = length-set three (a + 3) lost ∙ longThree;
-      count = getD-set-other three (a + 3) a lost 0 (λ p. absurd (omega arith)) ∙ getD-set-other two (a + 2) a wide 0 (λ p. absurd (omega arith))
-          ∙ getD-set-other one (a + 1) a base 0 (λ p. absurd (omega arith)) ∙ getD-set-same xs a rows 0 (omega arith);
-      base = getD-set-other three (a + 3) (a + 1) lost 0 (λ p. absurd (omega arith)) ∙ getD-set-other two (a + 2) (a + 1) wide 0 (λ p. absurd (omega arith))
-          ∙ getD-set-same one (a + 1) base 0 (omega (arith, longOne));
-      width = getD-set-other three (a + 3) (a + 2) lost 0 (λ p. absurd (omega arith)) ∙ getD-set-same two (a + 2) wide 0 (omega (arith, longTwo));
-      lost = getD-set-same three (a + 3) lost 0 (omega (arith, longThree));
-      rest = λ p m o. getD-set-other three (a + 3) p lost 0 (λ e. out o (omega arith) (omega arith)) ∙ getD-set-other two (a + 2) p wide 0 (λ e. out o (omega arith) (omega arith))
-          ∙ getD-set-other one (a + 1) p base 0 (λ e. out o (omega arith) (omega arith)) ∙ getD-set-other xs a p rows 0 (λ e. out o (omega arith) (omega arith));
+      long = four-long a (a + 1) (a + 2) (a + 3) rows base wide lost xs;
+      count = four-first a (a + 1) (a + 2) (a + 3) rows base wide lost xs (omega arith) (omega arith) (omega arith) (omega arith);
+      base = four-second a (a + 1) (a + 2) (a + 3) rows base wide lost xs (omega arith) (omega arith) (omega arith) (omega arith);
+      width = four-third a (a + 1) (a + 2) (a + 3) rows base wide lost xs (omega arith) (omega arith) (omega arith) (omega arith);
+      lost = four-fourth a (a + 1) (a + 2) (a + 3) rows base wide lost xs (omega arith) (omega arith) (omega arith) (omega arith);
+      rest = λ p m o. four-beside a (a + 1) (a + 2) (a + 3) rows base wide lost xs p (λ e. out o (omega arith) (omega arith)) (λ e. out o (omega arith) (omega arith)) (λ e. out o (omega arith) (omega arith))
+          (λ e. out o (omega arith) (omega arith));
     }
   where
     base : ℕ
@@ -90,24 +88,6 @@ header-put a rows bot wide gone xs l =
 
     lost : ℕ
     lost = wordsOf xs (a + 3) + gone
-
-    one : List ℕ
-    one = set xs a rows
-
-    two : List ℕ
-    two = set one (a + 1) base
-
-    three : List ℕ
-    three = set two (a + 2) wide
-
-    longOne : length one ≡ length xs
-    longOne = length-set xs a rows
-
-    longTwo : length two ≡ length xs
-    longTwo = length-set one (a + 1) base ∙ longOne
-
-    longThree : length three ≡ length xs
-    longThree = length-set two (a + 2) wide ∙ longTwo
 
     out : {p : ℕ} → (p < a) ⊎ (a + 4 ≤ p) → a ≤ p → p < a + 4 → ⊥
     out (inl h) m n = absurd (omega arith)

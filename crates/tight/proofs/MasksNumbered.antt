@@ -11,13 +11,14 @@ use native.Mathlib.Numerals.{add-one}
 use native.Mathlib.Omega.{arith}
 use native.Mathlib.Decide.{ℕ-discrete}
 use lib.Dec.{eqb, ltb}
-use lib.ListN.{length, set, length-set}
+use lib.ListN.{length, getD, set, length-set}
 use lib.Seq.{getD-set-same, getD-set-other}
 use borrow.Author.Tests.{eqb-true, eqb-false, eq-eqb, ne-eqb, lt-ltb, le-ltb, ltb-true, ltb-false}
+use Rattle.plan.specs.Plan.{onward}
 use Rattle.tight.specs.declared.Opening.{Opening}
 use Rattle.tight.specs.Room.{Words, wordsOf, Leaves, maskAt, unitsAt, cellAt}
 use Rattle.tight.specs.Rows.{replaced}
-use Rattle.tight.specs.Numbers.{sumIn, goesIn, numberIn, some, rankOf, onward, Placed, rowPut, numberOn, MaskOpened, Numbered, NumberedTo, Opened}
+use Rattle.tight.specs.Numbers.{sumIn, goesIn, numberIn, some, rankOf, Placed, rowPut, numberOn, MaskOpened, Numbered, NumberedTo, Opened}
 use Rattle.tight.proofs.Writing.{is-within, not-within}
 use Rattle.tight.proofs.Adding.{sum-part}
 use Rattle.tight.proofs.RowsKept.{row-before}
@@ -358,15 +359,16 @@ module _ (o : Opening) (r : ℕ) (xs ys : List ℕ) (so : Numbered o (o .masks) 
           rw (so .on C q (eqb-true (sumIn o (wordsOf xs) C) 0 e) g) (before (goesIn o (wordsOf xs) C) (omega arith) (omega arith))
       go before true e false h = rw (so .nowhere C q (eqb-true (sumIn o (wordsOf xs) C) 0 e) (ltb-false (goesIn o (wordsOf xs) C) C h)) l
 
-  -- a mask that goes on has the number of its end, where no such mask has units
-  pub number-end : ((C : ℕ) → C < o .masks → goesIn o (wordsOf xs) C < C → sumIn o (wordsOf xs) C ≡ 0) → (f C : ℕ) → C < o .masks
-      → numberIn o (wordsOf ys) C ≡ numberIn o (wordsOf ys) (onward f (goesIn o (wordsOf xs)) C)
+  -- a mask that goes on has the number of its end, where no such mask has units; the plan's words vs say where masks go on to, from place n on
+  pub number-end : (n : ℕ) (vs : List ℕ) → ((C : ℕ) → C < o .masks → getD vs (n + C) C ≡ goesIn o (wordsOf xs) C)
+      → ((C : ℕ) → C < o .masks → goesIn o (wordsOf xs) C < C → sumIn o (wordsOf xs) C ≡ 0) → (f C : ℕ) → C < o .masks
+      → numberIn o (wordsOf ys) C ≡ numberIn o (wordsOf ys) (onward f n vs C)
   unfolding onward
-  number-end h zero C l = refl
-  number-end h (suc f) C l = go (number-end h f) (ltb (goesIn o (wordsOf xs) C) C) refl
+  number-end n vs same h zero C l = refl
+  number-end n vs same h (suc f) C l = rw (same C l) (go (number-end n vs same h f) (ltb (goesIn o (wordsOf xs) C) C) refl)
     where
-      go : ((D : ℕ) → D < o .masks → numberIn o (wordsOf ys) D ≡ numberIn o (wordsOf ys) (onward f (goesIn o (wordsOf xs)) D)) → (b : Bool) → ltb (goesIn o (wordsOf xs) C) C ≡ b
-          → numberIn o (wordsOf ys) C ≡ numberIn o (wordsOf ys) (cond b (onward f (goesIn o (wordsOf xs)) (goesIn o (wordsOf xs) C)) C)
+      go : ((D : ℕ) → D < o .masks → numberIn o (wordsOf ys) D ≡ numberIn o (wordsOf ys) (onward f n vs D)) → (b : Bool) → ltb (goesIn o (wordsOf xs) C) C ≡ b
+          → numberIn o (wordsOf ys) C ≡ numberIn o (wordsOf ys) (cond b (onward f n vs (goesIn o (wordsOf xs) C)) C)
       go further true e =
           let g : goesIn o (wordsOf xs) C < C = ltb-true (goesIn o (wordsOf xs) C) C e in
           so .on C l (h C l g) g ∙ further (goesIn o (wordsOf xs) C) (omega arith)

@@ -12,16 +12,21 @@ use lib.Dec.{eqb, ltb}
 use lib.ListN.{length}
 use borrow.Author.Tests.{eq-eqb, ne-eqb, ltb-true, ltb-false}
 use Rattle.basics.specs.Sums.{sumOver}
+use Rattle.basics.proofs.Sums.{sum-eq}
 use Rattle.rules.specs.declared.Target.{Target}
-use Rattle.rules.specs.Units.{whole}
 use Rattle.rules.specs.Contents.{hits, bit, with, without, shared, held, size}
 use Rattle.tight.specs.declared.Route.{Route}
 use Rattle.tight.specs.Room.{Words, wordsOf, Leaves}
 use Rattle.tight.specs.Rows.{Apart, replaced, selected, withRow, Addable, within}
 use Rattle.tight.specs.Access.{if, risk}
-use Rattle.tight.specs.Moving.{plus, startOf, comes, Beside, Movable, choosing, endOf, missComes, rowComes}
+use Rattle.tight.specs.Moving.{plus, startOf, comes, Beside, rowUnits, Movable, choosing, endOf, missComes, rowComes}
 use Rattle.tight.proofs.Writing.{not-within, within-cases, is-within}
+use Rattle.tight.proofs.Adding.{sum-term}
 use Rattle.tight.proofs.Raising.{live-most, lostBelow, lost-more, lost-nothing-yet, lost-everywhere, lost-most}
+
+-- what is chosen of a word is no more than the row has
+part-few : (r : Route) (w : Words) (j : ℕ) → j < r .width → selected w (r .from + j) (r .select + j) ≤ rowUnits r w
+part-few r w j l = le-trans (and-le-l (w (r .from + j)) (w (r .select + j))) (sum-term j (r .width) (λ i. w (r .from + i)) l)
 
 module _ (r : Route) (L s : ℕ) (xs : List ℕ) (ok : Movable r L s xs) (D : ℕ) (d : D ≤ L) where
   abbrev start : ℕ
@@ -48,8 +53,8 @@ module _ (r : Route) (L s : ℕ) (xs : List ℕ) (ok : Movable r L s xs) (D : �
         beside = row-apart shift (r .select) h (ok .beside);
         fits = λ j l. omega (
           arith,
-          ok .fits (start + shift + j) (omega (arith, row-there, ok .wide)),
-          mul-le-mul-right s (le-trans (and-le-l (wordsOf xs (r .from + j)) (wordsOf xs (r .select + j))) (ok .most j l)),
+          ok .fits (start + shift + j) (omega arith) (omega (arith, row-room, ok .wide)),
+          mul-le-mul-right s (part-few r (wordsOf xs) j l),
         );
       }
 
@@ -78,7 +83,16 @@ outside : (r : Route) (a n j : ℕ) → Beside r a n → j < n → Outside r (a 
 outside r a n j (inl h) l = inl (omega arith)
 outside r a n j (inr h) l = inr (omega arith)
 
--- what comes to a row comes to the table only, and is no more than so many times WHOLE
+-- what comes is no more than so many times what the row has
+pub comes-most : (r : Route) (shift times D : ℕ) (w : Words) (i : ℕ) → comes r shift times D w i ≤ times * rowUnits r w
+comes-most r shift times D w i =
+    within-cases a (r .width) i (λ b. if b (selected w (r .from + (i - a)) (r .select + (i - a)) * times) ≤ times * rowUnits r w)
+    (λ p q. le-trans (mul-le-mul-right times (part-few r w (i - a) (omega arith))) (omega arith)) (λ o. omega arith)
+  where
+    a : ℕ
+    a = startOf r w D + shift
+
+-- and comes to the table only
 module _ (r : Route) (L s : ℕ) (xs : List ℕ) (ok : Movable r L s xs) (D : ℕ) (d : D ≤ L) (shift times : ℕ) where
   pub comes-quiet : shift ≤ 1 → (p : ℕ) → Outside r p → comes r shift times D (wordsOf xs) p ≡ 0
   comes-quiet h p o = rw (not-within (startOf r (wordsOf xs) D + shift) (r .width) p (elsewhere o)) refl
@@ -86,15 +100,6 @@ module _ (r : Route) (L s : ℕ) (xs : List ℕ) (ok : Movable r L s xs) (D : �
       elsewhere : Outside r p → (p < startOf r (wordsOf xs) D + shift) ⊎ (startOf r (wordsOf xs) D + shift + r .width ≤ p)
       elsewhere (inl q) = inl (omega arith)
       elsewhere (inr q) = inr (omega (arith, row-room r L s xs ok D d, ok .wide))
-
-  pub comes-most : (i : ℕ) → comes r shift times D (wordsOf xs) i ≤ times * whole
-  comes-most i =
-      within-cases a (r .width) i (λ b. if b (selected (wordsOf xs) (r .from + (i - a)) (r .select + (i - a)) * times) ≤ times * whole)
-      (λ p q. le-trans (mul-le-mul-right times (le-trans (and-le-l (wordsOf xs (r .from + (i - a))) (wordsOf xs (r .select + (i - a)))) (ok .most (i - a) (omega arith)))) (omega arith))
-      (λ o. omega arith)
-    where
-      a : ℕ
-      a = startOf r (wordsOf xs) D + shift
 
 module _ (r : Route) (L : ℕ) (v : Words → ℕ → ℕ) (xs ys : List ℕ) (h : Leaves (plus v) xs ys) (quiet : (p : ℕ) → Outside r p → v (wordsOf xs) p ≡ 0) where
   stays : (p : ℕ) → p < length xs → Outside r p → wordsOf ys p ≡ wordsOf xs p
@@ -113,8 +118,14 @@ module _ (r : Route) (L : ℕ) (v : Words → ℕ → ℕ) (xs ys : List ℕ) (h
       a : ℕ
       a = startOf r (wordsOf xs) D + shift
 
+  -- the row is as it was
+  pub same-units : (s : ℕ) → Movable r L s xs → rowUnits r (wordsOf ys) ≡ rowUnits r (wordsOf xs)
+  same-units s ok =
+      sum-eq (r .width) (λ j. wordsOf ys (r .from + j)) (λ j. wordsOf xs (r .from + j))
+      (λ j l. stays (r .from + j) (omega (arith, ok .inside)) (outside r (r .from) (r .width) j (ok .apart) l))
+
   -- there is room for what is left
-  pub still-movable : (s t : ℕ) → Movable r L (t + s) xs → ((i : ℕ) → v (wordsOf xs) i ≤ t * whole) → Movable r L s ys
+  pub still-movable : (s t : ℕ) → Movable r L (t + s) xs → ((i : ℕ) → v (wordsOf xs) i ≤ t * rowUnits r (wordsOf xs)) → Movable r L s ys
   still-movable s t ok most =
       record {
         inside = rw (h .long) (ok .inside);
@@ -126,8 +137,7 @@ module _ (r : Route) (L : ℕ) (v : Words → ℕ → ℕ) (xs ys : List ℕ) (h
         apart = ok .apart;
         beside = ok .beside;
         behind = ok .behind;
-        most = λ j l. rw (stays (r .from + j) (omega (arith, ok .inside)) (outside r (r .from) (r .width) j (ok .apart) l)) (ok .most j l);
-        fits = λ i l. omega (arith, h .word i (omega (arith, h .long)), most i, ok .fits i (omega (arith, h .long)));
+        fits = λ i l m. rw (same-units (t + s) ok) (omega (arith, h .word i (omega (arith, ok .room)), most i, ok .fits i l m));
       }
 
 -- and for less
@@ -143,8 +153,7 @@ movable-less r L t s xs l ok =
       apart = ok .apart;
       beside = ok .beside;
       behind = ok .behind;
-      most = ok .most;
-      fits = λ i k. omega (arith, ok .fits i k, mul-le-mul-right whole l);
+      fits = λ i k m. omega (arith, ok .fits i k m, mul-le-mul-right (rowUnits r (wordsOf xs)) l);
     }
 
 -- what is added one after the other is added up
@@ -199,7 +208,7 @@ module _ (r : Route) (C E : ℕ) (x : Target) (L : ℕ) where
     pub came-movable : (k t : ℕ) (ys : List ℕ) → k + t ≤ s → CameTo k xs ys → Movable r L t ys
     came-movable k t ys e f =
         still-movable r L (λ w i. lostBelow (oneComes w i) E k) xs ys f (lost-quiet k) t k (movable-less r L (k + t) s xs e ok)
-        (λ i. lost-most (oneComes (wordsOf xs) i) whole (λ e. le-trans (comes-most r L s xs ok (endAt e) (live-most (with (without C e) (x .place)) L) 1 1 i) (omega arith)) E k)
+        (λ i. lost-most (oneComes (wordsOf xs) i) (rowUnits r (wordsOf xs)) (λ e. le-trans (comes-most r 1 1 (endAt e) (wordsOf xs) i) (omega arith)) E k)
 
   pub came-in-all : (k : ℕ) (xs ys : List ℕ) → k ≡ 16 → CameTo k xs ys → Leaves (plus (λ w i. sumOver (oneComes w i) (held E))) xs ys
   came-in-all k xs ys e f =
@@ -233,10 +242,10 @@ module _ (N : ℕ) (x : Target) (L : ℕ) (r : Route) (keep C : ℕ) (xs : List 
   lost-out : (p : ℕ) → Outside r p → lostComes (wordsOf xs) p ≡ 0
   lost-out p o = lost-is (wordsOf xs) p ∙ lost-quiet r C E x L 33 xs ok 16 p o
 
-  lost-few : (i : ℕ) → lostComes (wordsOf xs) i ≤ 16 * whole
+  lost-few : (i : ℕ) → lostComes (wordsOf xs) i ≤ 16 * rowUnits r (wordsOf xs)
   lost-few i =
       rw (lost-is (wordsOf xs) i)
-      (lost-most (oneComes r C E x L (wordsOf xs) i) whole (λ e. le-trans (comes-most r L 33 xs ok (endOf x L (without C e)) (live-most (with (without C e) (x .place)) L) 1 1 i) (omega arith)) E 16)
+      (lost-most (oneComes r C E x L (wordsOf xs) i) (rowUnits r (wordsOf xs)) (λ e. le-trans (comes-most r 1 1 (endOf x L (without C e)) (wordsOf xs) i) (omega arith)) E 16)
 
   pub lost-first : Movable r L 16 xs
   lost-first = movable-less r L 16 33 xs (omega arith) ok
@@ -254,14 +263,14 @@ module _ (N : ℕ) (x : Target) (L : ℕ) (r : Route) (keep C : ℕ) (xs : List 
       kept-out : (p : ℕ) → Outside r p → keptComes (wordsOf xs) p ≡ 0
       kept-out p o = omega (arith, lost-out p o, comes-quiet r L 33 xs ok end low 1 rest (le-refl 1) p o)
 
-      kept-few : (i : ℕ) → keptComes (wordsOf xs) i ≤ 32 * whole
-      kept-few i = omega (arith, lost-few i, comes-most r L 33 xs ok end low 1 rest i, rest-few)
+      kept-few : (i : ℕ) → keptComes (wordsOf xs) i ≤ 32 * rowUnits r (wordsOf xs)
+      kept-few i = omega (arith, lost-few i, comes-most r 1 rest end (wordsOf xs) i, rest-few)
         where
           least : rest ≤ 16
           least = omega arith
 
-          rest-few : rest * whole ≤ 16 * whole
-          rest-few = mul-le-mul-right whole least
+          rest-few : rest * rowUnits r (wordsOf xs) ≤ 16 * rowUnits r (wordsOf xs)
+          rest-few = mul-le-mul-right (rowUnits r (wordsOf xs)) least
 
       pub stay-third : Movable (choosing r keep) L 1 zs
       stay-third = still-movable (choosing r keep) L keptComes xs zs both-came kept-out 1 32 (movable-less (choosing r keep) L 33 33 xs (le-refl 33) other) kept-few

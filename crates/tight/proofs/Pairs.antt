@@ -23,8 +23,8 @@ use Rattle.rules.proofs.Table.{Rising}
 use Rattle.tight_rules.specs.Rows.{contents}
 use Rattle.tight_rules.specs.Join.{Two, spend, pairUp, rowOf, rowsOf, inTurn, pairing}
 use Rattle.tight.proofs.Cells.{Test, unitsWhere, where-add}
-use Rattle.tight.specs.Joining.{Heights, sharing, turns, amountOf, lowered, joinedTo}
-use Rattle.tight.proofs.Quantiles.{unitsBy, spend-units, taken, amount, counted, counted-append, counted-same, leftOf, rightOf, left-append, right-append, left-away, right-away, meant, meant-same, meant-most, all, Once, First, against, grid, grid-left, grid-away, grid-left-over, grid-right, either, grid-counts}
+use Rattle.tight.specs.Joining.{taken, amount, leftOf, rightOf, Heights, sharing, turns, amountOf, lowered, joinedTo}
+use Rattle.tight.proofs.Quantiles.{unitsBy, spend-units, counted, counted-append, counted-same, left-append, right-append, left-away, right-away, meant, meant-same, meant-most, all, Once, First, against, grid, grid-left, grid-away, grid-left-over, grid-right, either, grid-counts}
 
 -- ---- the pairs that the definition makes, by units alone
 

@@ -17,12 +17,9 @@ use Rattle.rules.proofs.Lists.{every-append}
 use Rattle.rules.specs.AnyTable.{Match}
 use Rattle.rules.specs.Table.{unitsOf, stateAt}
 use Rattle.tight_rules.specs.Join.{Two, spend, pairUp}
+use Rattle.tight.specs.Joining.{taken, amount, leftOf, rightOf}
 
 -- ---- the units that are left, by place
-
--- units by place, of which u at place i are used
-abbrev pub taken : ℕ → ℕ → (ℕ → ℕ) → ℕ → ℕ
-taken i u a k = cond (eqb k i) (a k - u) (a k)
 
 taken-here : (i u : ℕ) (a : ℕ → ℕ) → taken i u a i ≡ a i - u
 taken-here i u a = rw (eq-eqb i i refl) refl
@@ -48,23 +45,10 @@ spend-units (suc i) u (s ∷ T) (suc k) = rw (eqb·suc-suc k i) (spend-units i u
 
 -- ---- pairs one after the other, by units alone
 
--- the smaller amount left
-abbrev pub amount : Two → (ℕ → ℕ) → (ℕ → ℕ) → ℕ
-amount c a b = min (a (c .left)) (b (c .right))
-
 -- of the units that are paired, those of pairs that are meant
 abbrev pub counted : (Two → Bool) → List Two → (ℕ → ℕ) → (ℕ → ℕ) → ℕ
 counted t [] a b = 0
 counted t (c ∷ cs) a b = let u = amount c a b in cond (t c) u 0 + counted t cs (taken (c .left) u a) (taken (c .right) u b)
-
--- what is left on the left, and on the right
-abbrev pub leftOf : List Two → (ℕ → ℕ) → (ℕ → ℕ) → ℕ → ℕ
-leftOf [] a b = a
-leftOf (c ∷ cs) a b = let u = amount c a b in leftOf cs (taken (c .left) u a) (taken (c .right) u b)
-
-abbrev pub rightOf : List Two → (ℕ → ℕ) → (ℕ → ℕ) → ℕ → ℕ
-rightOf [] a b = b
-rightOf (c ∷ cs) a b = let u = amount c a b in rightOf cs (taken (c .left) u a) (taken (c .right) u b)
 
 pub counted-append : (t : Two → Bool) (cs ds : List Two) (a b : ℕ → ℕ) → counted t (cs ++ ds) a b ≡ counted t cs a b + counted t ds (leftOf cs a b) (rightOf cs a b)
 counted-append t [] ds a b = omega arith

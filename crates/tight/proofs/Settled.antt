@@ -166,7 +166,7 @@ raise-aside B (s ∷ T) = ap₂ _+_ (go (ltb (s .misses) B) refl) (raise-aside B
 
 -- ---- a staged table
 
-every-both : (P Q : State → Type 0) (T : List State) → Every P T → Every Q T → Every (λ s. P s × Q s) T
+pub every-both : (P Q : State → Type 0) (T : List State) → Every P T → Every Q T → Every (λ s. P s × Q s) T
 every-both P Q [] a b = tt
 every-both P Q (s ∷ T) a b = ((a .0, b .0), every-both P Q T (a .1) (b .1))
 
@@ -180,7 +180,7 @@ every-turned : (C m : ℕ) (T : List State) → Every (λ s. (eqb (s .misses) m 
 every-turned C m [] = tt
 every-turned C m (s ∷ T) = (turned (eqb (s .misses) m) (eqb (s .mask) C), every-turned C m T)
 
-sum-zero : (n : ℕ) (f : ℕ → ℕ) → sumTo n f ≡ 0 → (i : ℕ) → i < n → f i ≡ 0
+pub sum-zero : (n : ℕ) (f : ℕ → ℕ) → sumTo n f ≡ 0 → (i : ℕ) → i < n → f i ≡ 0
 sum-zero zero f e i l = absurd (omega arith)
 sum-zero (suc n) f e i l = ⊎-elim (λ p. ap f p ∙ omega arith) (λ k. sum-zero n f (omega arith) i k) (eq-or-lt-of-le (le-of-suc-le-suc l))
 

@@ -81,3 +81,41 @@ module _ (a : ℕ) (v : Words → ℕ → ℕ) where
   -- where they are all that are to be written
   pub all-written : (j n : ℕ) (xs ys : List ℕ) → j ≡ n → Written j xs ys → Written n xs ys
   all-written j n xs ys e h = rw (← e) h
+
+-- ---- four words
+
+-- written one after the other
+module _ (a b c d u v y z : ℕ) (ws : List ℕ) where
+  abbrev four : List ℕ
+  four = set (set (set (set ws a u) b v) c y) d z
+
+  pub four-long : length four ≡ length ws
+  four-long = length-set (set (set (set ws a u) b v) c y) d z ∙ length-set (set (set ws a u) b v) c y ∙ length-set (set ws a u) b v ∙ length-set ws a u
+
+  pub four-beside : (i : ℕ) → i ≢ a → i ≢ b → i ≢ c → i ≢ d → wordsOf four i ≡ wordsOf ws i
+  four-beside i p q r t =
+      getD-set-other (set (set (set ws a u) b v) c y) d i z 0 t ∙ getD-set-other (set (set ws a u) b v) c i y 0 r ∙ getD-set-other (set ws a u) b i v 0 q ∙ getD-set-other ws a i u 0 p
+
+  module _ (ab : a < b) (bc : b < c) (cd : c < d) (there : d < length ws) where
+    pub four-first : wordsOf four a ≡ u
+    four-first =
+        getD-set-other (set (set (set ws a u) b v) c y) d a z 0 (λ p. absurd (omega arith))
+        ∙ getD-set-other (set (set ws a u) b v) c a y 0 (λ p. absurd (omega arith))
+        ∙ getD-set-other (set ws a u) b a v 0 (λ p. absurd (omega arith))
+        ∙ getD-set-same ws a u 0 (omega arith)
+
+    pub four-second : wordsOf four b ≡ v
+    four-second =
+        getD-set-other (set (set (set ws a u) b v) c y) d b z 0 (λ p. absurd (omega arith))
+        ∙ getD-set-other (set (set ws a u) b v) c b y 0 (λ p. absurd (omega arith))
+        ∙ getD-set-same (set ws a u) b v 0 (omega (arith, length-set ws a u))
+
+    pub four-third : wordsOf four c ≡ y
+    four-third =
+        getD-set-other (set (set (set ws a u) b v) c y) d c z 0 (λ p. absurd (omega arith))
+        ∙ getD-set-same (set (set ws a u) b v) c y 0 (omega (arith, length-set (set ws a u) b v, length-set ws a u))
+
+    pub four-fourth : wordsOf four d ≡ z
+    four-fourth =
+        getD-set-same (set (set (set ws a u) b v) c y) d z 0
+        (omega (arith, length-set (set (set ws a u) b v) c y, length-set (set ws a u) b v, length-set ws a u))

@@ -7,12 +7,10 @@ use lib.Dec.{eqb, ltb}
 use lib.ListN.{length}
 use Rattle.basics.specs.Sums.{sumOver}
 use Rattle.rules.specs.declared.Filled.{Filled}
-use Rattle.rules.specs.declared.State.{State}
 use Rattle.rules.specs.declared.Target.{Target}
 use Rattle.rules.specs.Contents.{hits, with, without, shared, held, size}
 use Rattle.rules.specs.Filling.{filledAt}
 use Rattle.rules.specs.Shape.{Listed}
-use Rattle.rules.specs.Table.{state, unitsOf}
 use Rattle.tight.specs.Room.{wordsOf}
 use Rattle.tight.specs.Grid.{Grid}
 
@@ -53,23 +51,19 @@ goesTo N x t lose C u = cond (eqb (risk x C) 0) (if (t (with C (x .place))) u) (
 unfoldable pub restTo : ℕ → Target → (ℕ → Bool) → Bool → ℕ → ℕ → ℕ
 restTo N x t lose C u = cond (eqb (risk x C) 0) 0 (if (lose && t (with 0 (x .place))) (u % N))
 
--- s with other contents
-abbrev pub renamed : (ℕ → ℕ) → State → State
-renamed g s = state (g (s .mask)) (s .misses) (s .filled) (unitsOf s)
+-- cell i of a row of n cells, f of 0, 1, .., that goes one cell further on
+abbrev pub further : ℕ → (ℕ → ℕ) → ℕ → ℕ
+further n f zero = 0
+further n f (suc j) = if (ltb j n) (f j)
 
 module _ (N : ℕ) (x : Target) (t : ℕ → Bool) (g : Grid) where
   -- what cell j of contents k sends on at a miss
   abbrev pub sends : ℕ → ℕ → ℕ
   sends k j = let lose = evicts N x (g .filled j) in goesTo N x t lose (g .mask k) (g .cell k j) + restTo N x t lose (g .mask k) (g .cell k j)
 
-  -- the cell before cell i, if it is in use, sends its units on
-  abbrev pub fromLeft : ℕ → ℕ → ℕ
-  fromLeft k zero = 0
-  fromLeft k (suc j) = if (ltb j (g .width)) (sends k j)
-
   -- what of contents k comes to cell i of those that are meant: at a hit the units of cell i, and at a miss those that the cell before it sends on
   abbrev pub arrives : ℕ → ℕ → ℕ
-  arrives k i = cond (hits x (g .mask k)) (if (ltb i (g .width)) (if (t (g .mask k)) (g .cell k i))) (fromLeft k i)
+  arrives k i = cond (hits x (g .mask k)) (if (ltb i (g .width)) (if (t (g .mask k)) (g .cell k i))) (further (g .width) (sends k) i)
 
 -- a row of contents C can be added to the sums at place `plan`: L is live, and no sum grows beyond a word
 pub record Summable (N : ℕ) (x : Target) (plan L C all q stay : ℕ) (ws : List ℕ) : Type 0 where

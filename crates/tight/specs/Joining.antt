@@ -9,6 +9,28 @@ use Rattle.rules.specs.Contents.{shared, size}
 use Rattle.tight_rules.specs.Rows.{contents}
 use Rattle.tight_rules.specs.Join.{Two}
 
+-- ---- units by place
+
+-- of which u at place i are used
+abbrev pub taken : ℕ → ℕ → (ℕ → ℕ) → ℕ → ℕ
+taken i u a k = cond (eqb k i) (a k - u) (a k)
+
+-- the smaller amount left
+abbrev pub amount : Two → (ℕ → ℕ) → (ℕ → ℕ) → ℕ
+amount c a b = min (a (c .left)) (b (c .right))
+
+-- what is left on the left, when pair after pair has taken as many units as both have
+abbrev pub leftOf : List Two → (ℕ → ℕ) → (ℕ → ℕ) → ℕ → ℕ
+leftOf [] a b = a
+leftOf (c ∷ cs) a b = let u = amount c a b in leftOf cs (taken (c .left) u a) (taken (c .right) u b)
+
+-- and on the right
+abbrev pub rightOf : List Two → (ℕ → ℕ) → (ℕ → ℕ) → ℕ → ℕ
+rightOf [] a b = b
+rightOf (c ∷ cs) a b = let u = amount c a b in rightOf cs (taken (c .left) u a) (taken (c .right) u b)
+
+-- ---- contents after contents
+
 -- for contents and a miss count, how many units lie at or above it
 abbrev pub Heights : Type 0
 Heights = ℕ → ℕ → ℕ

@@ -6,9 +6,9 @@ use Prim.Native.Nat.{ℕ, _+_, _-_, _*_, _^_, _≤_, _<_}
 use lib.Dec.{eqb}
 use lib.ListN.{length}
 use Rattle.basics.specs.Sums.{sumOver}
+use Rattle.basics.proofs.Sums.{sumTo}
 use Rattle.rules.specs.declared.Target.{Target}
 use Rattle.rules.specs.Contents.{hits, with, without, shared, held, size}
-use Rattle.rules.specs.Units.{whole}
 use Rattle.tight.specs.declared.Route.{Route}
 use Rattle.tight.specs.Room.{Words, wordsOf}
 use Rattle.tight.specs.Rows.{within, selected}
@@ -32,8 +32,12 @@ comes r shift times D w i =
 abbrev pub Beside : Route → ℕ → ℕ → Type 0
 Beside r a n = (a + n ≤ r .cells) ⊎ (r .cells + r .rows * r .length ≤ a)
 
--- everything is there, the row and what chooses and numbers it beside the table; each mask of L has a row; there is room for one cell more; the row's words are no more
--- than WHOLE, and s times that can be added to each of the table's
+-- the words of the row, in all
+abbrev pub rowUnits : Route → Words → ℕ
+rowUnits r w = sumTo (r .width) (λ j. w (r .from + j))
+
+-- everything is there, the row and what chooses and numbers it beside the table; each mask of L has a row; there is room for one cell more; and s times all of the row's words
+-- can be added to each of the table's
 pub record Movable (r : Route) (L s : ℕ) (ws : List ℕ) : Type 0 where
   pub inside : r .from + r .width ≤ length ws
   pub chosen : r .select + r .width ≤ length ws
@@ -44,8 +48,7 @@ pub record Movable (r : Route) (L s : ℕ) (ws : List ℕ) : Type 0 where
   pub apart : Beside r (r .from) (r .width)
   pub beside : Beside r (r .select) (r .width)
   pub behind : Beside r (r .numbers) (L + 1)
-  pub most : (j : ℕ) → j < r .width → wordsOf ws (r .from + j) ≤ whole
-  pub fits : (i : ℕ) → i < length ws → wordsOf ws i + s * whole < 2 ^ 64
+  pub fits : (i : ℕ) → r .cells ≤ i → i < r .cells + r .rows * r .length → wordsOf ws i + s * rowUnits r (wordsOf ws) < 2 ^ 64
 
 -- the same row, of which other words are chosen
 abbrev pub choosing : Route → ℕ → Route

@@ -3,7 +3,7 @@ use mathlib.Core.Path.{_≡_}
 use mathlib.Core.Logic.{_⊎_}
 use mathlib.Core.Bool.{cond}
 use mathlib.Core.List.{List}
-use Prim.Native.Nat.{ℕ, zero, suc, _+_, _≤_, _<_}
+use Prim.Native.Nat.{ℕ, _+_, _≤_, _<_}
 use lib.Dec.{eqb, ltb}
 use lib.ListN.{length, set}
 use Rattle.basics.proofs.Sums.{sumTo}
@@ -29,11 +29,6 @@ some u = cond (eqb u 0) 0 1
 -- how many of the masks below m have units, where mask C has u C: the number of the row of mask m, if it has units
 abbrev pub rankOf : (ℕ → ℕ) → ℕ → ℕ
 rankOf u m = sumTo m (λ C. some (u C))
-
--- from C on, f steps at most, as long as it goes to a smaller mask
-unfoldable pub onward : ℕ → (ℕ → ℕ) → ℕ → ℕ
-onward zero goes C = C
-onward (suc f) goes C = cond (ltb (goes C) C) (onward f goes (goes C)) C
 
 -- the slot, the units by mask, where they go on to, and the numbers stand one behind the other
 pub record Placed (o : Opening) (ws : List ℕ) : Type 0 where

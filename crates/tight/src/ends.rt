@@ -83,7 +83,7 @@ pub(crate) fn find_bottom(work: &[u64], stage: usize, cells: usize, top: usize) 
 }
 
 // The sum of `n` words from place `from` on.
-fn sum_of(work: &[u64], from: usize, n: usize) -> u64
+pub(crate) fn sum_of(work: &[u64], from: usize, n: usize) -> u64
     requires { ⌜ (from + n ≤ length (now work)) × (sumTo n (λ j. wordsOf (now work) (from + j)) < 2 ^ 64) ⌝ }
     ensures { λ r. ⌜ r ≡ sumTo n (λ j. wordsOf (now (work .entry)) (from + j)) ⌝ }
 {

@@ -12,7 +12,7 @@ ghost use Rattle.tight.specs.Rows.{Splittable};
 ghost use Rattle.tight.specs.Splitting.{canLose, splitIf, Shareable, Shared};
 
 // Whether contents `mask` miss, and can lose a block.
-fn can_lose(mask: u64, x: Target) -> bool
+pub(crate) fn can_lose(mask: u64, x: Target) -> bool
     requires { ⌜ Listed 16 (x .place) ⌝ }
     ensures { λ r. ⌜ r ≡ canLose x mask ⌝ }
 {

@@ -24,7 +24,7 @@ pub(crate) fn comes_to(mask: u64, x: Target, live: u64) -> u64
 }
 
 // So many units more go to `mask`.
-fn add_units(work: &mut [u64], plan: usize, mask: u64, units: u64)
+pub(crate) fn add_units(work: &mut [u64], plan: usize, mask: u64, units: u64)
     requires { ⌜ (plan + mask < length (now work)) × (wordsOf (now work) (plan + mask) + units < 2 ^ 64) ⌝ }
     ensures { λ _. ⌜ now (work .exit) ≡ set (now (work .entry)) (plan + mask) (wordsOf (now (work .entry)) (plan + mask) + units) ⌝ }
 {

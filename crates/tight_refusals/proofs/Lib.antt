@@ -1,5 +1,3 @@
--- The tables that are kept
-pub mod Kept
 -- How many words there are
 pub mod Sizes
 -- The verdict

@@ -1,64 +1,12 @@
 // How many words the second analysis works in, where it is not refused for anything but its rooms.
-use basics::larger;
+use tight_slots::most_kept;
 ghost use mathlib.Core.Path.{_≡_};
-ghost use mathlib.Core.Bool.{cond, _&&_};
 ghost use Prim.Native.Nat.{_+_, _*_, _^_, _≤_, min};
-ghost use lib.Dec.{eqb, leb};
 ghost use lib.ListN.{length};
-ghost use Rattle.rules.specs.Input.{cache, edgesOf};
+ghost use Rattle.rules.specs.Input.{cache};
 ghost use Rattle.rules.specs.declared.Start.the-variants.{Cold};
 ghost use Rattle.tight_rules.specs.Asked.{askedIn};
-ghost use Rattle.tight_rules.specs.Rooms.{passes, keptBelow, mostKept, roomNeeded};
-
-// Whether the edge comes from node `u` and leads to node `v` or beyond it.
-fn is_passing(from: u32, to: u32, u: usize, v: usize) -> bool
-    ensures { λ r. ⌜ r ≡ (eqb from u && leb v to) ⌝ }
-{
-    if from as usize == u {
-        return v <= to as usize;
-    }
-    false
-}
-
-// 1 if an edge leads from node `u` to node `v` or beyond it, otherwise 0.
-fn passing(edges: &[u32], u: usize, v: usize) -> u64
-    ensures { λ r. ⌜ r ≡ cond (passes (edgesOf (now (edges .entry))) u v) 1 0 ⌝ }
-{
-    let mut e: usize = 0;
-    while e + 1 < edges.len() {
-        if is_passing(edges[e], edges[e + 1], u, v) {
-            return 1;
-        }
-        e += 2;
-    }
-    0
-}
-
-// How many nodes before node `v` have an edge to it or beyond it.
-fn kept_at(edges: &[u32], v: usize) -> u64
-    ensures { λ r. ⌜ r ≡ keptBelow (edgesOf (now (edges .entry))) v v ⌝ }
-{
-    let mut kept: u64 = 0;
-    let mut u: usize = v;
-    while 0 < u {
-        u -= 1;
-        kept += passing(edges, u, v);
-    }
-    kept
-}
-
-// The most of them over the first `n` nodes.
-fn most_kept(edges: &[u32], n: usize) -> u64
-    ensures { λ r. ⌜ r ≡ mostKept (edgesOf (now (edges .entry))) n ⌝ }
-{
-    let mut most: u64 = 0;
-    let mut v: usize = n;
-    while 0 < v {
-        v -= 1;
-        most = larger(most, kept_at(edges, v));
-    }
-    most
-}
+ghost use Rattle.tight_rules.specs.Rooms.{roomNeeded};
 
 // The cells that a row has room for: no more than there can be miss counts, and one.
 fn row_cells(cells: u64, accesses: u64) -> u64

@@ -7,7 +7,7 @@ use lib.ListN.{length}
 use Rattle.rules.specs.declared.Start.the-variants.{Cold}
 use Rattle.rules.specs.Input.{cache, edgesOf}
 use Rattle.tight_rules.specs.Asked.{askedIn}
-use Rattle.tight_refusals.proofs.Kept.{most-few}
+use Rattle.tight_slots.proofs.Kept.{most-few}
 use Rattle.tight_refusals.proofs.Sizes.{tables-most, beside-most, words-are}
 use Rattle.tight_refusals.proofs.rooms.words_needed.Statement.{statement}
 use Rattle.tight_refusals.proofs.rooms.words_needed.Tie as tie

@@ -1,0 +1,2 @@
+-- Which slot holds the table of a node
+pub mod Slots
