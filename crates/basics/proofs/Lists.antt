@@ -1,6 +1,6 @@
--- Lists walked from the front, and lists of zeros.
-use mathlib.Core.Path.{_≡_, _∙_}
-use mathlib.Core.List.{List, [], _∷_, _++_, append-nil}
+-- Lists walked from the front, lists put flat, and lists of zeros.
+use mathlib.Core.Path.{_≡_, refl, sym, _∙_}
+use mathlib.Core.List.{List, [], _∷_, _++_, flatMap, append-nil, append-assoc}
 use Prim.Native.Nat.{ℕ, _+_, _≤_, _<_}
 use native.Mathlib.Numerals.{add-one}
 use lib.ListN.{length, getD, drop, replicate, drop-of-length-le}
@@ -14,6 +14,12 @@ module _ {A B : Type 0} (f : List B → A) (xs : List B) (i : ℕ) (w : A) (rest
 
   pub list-end : length xs ≤ i → f [] ≡ w
   list-end h = rw (drop-of-length-le xs h) at rest
+
+-- two lists put flat, one behind the other
+pub flat-append : {A B : Type 0} (f : A → List B) (xs ys : List A) → flatMap f (xs ++ ys) ≡ flatMap f xs ++ flatMap f ys
+unfolding flatMap
+flat-append f [] ys = refl
+flat-append f (x ∷ xs) ys = rw (flat-append f xs ys) (sym (append-assoc (f x) (flatMap f xs) (flatMap f ys)))
 
 -- zeros up to the end are all there is
 pub all-filled : (xs ws : List ℕ) (i : ℕ) → i ≡ length xs → ws ≡ replicate i 0 ++ drop i xs → ws ≡ replicate (length xs) 0

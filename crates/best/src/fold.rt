@@ -140,8 +140,9 @@ pub(crate) fn take_out(words: &mut [u64], n: usize, at: usize)
     requires { ⌜ (at < n) × (n * 5 ≤ length (now words)) ⌝ }
     ensures { λ _. ⌜ take (n - 1) (tableOf (now (words .exit))) ≡ remove at (take n (tableOf (now (words .entry)))) ⌝ }
 {
+    let last = n - 1;
     let mut j = at;
-    while j + 1 < n {
+    while j < last {
         let t = load(words, j + 1);
         store(words, j, t);
         j += 1;

@@ -3,7 +3,7 @@ use rules::BestState;
 use rules::Hits;
 use rules::Misses;
 use rules::Units;
-use states::best::same_contents;
+use states::best_states::same_contents;
 ghost use mathlib.Core.Path.{_≡_};
 ghost use Prim.Native.Nat.{min};
 ghost use Rattle.best.specs.Tables.{meet as meetOf, pairOf};

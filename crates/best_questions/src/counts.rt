@@ -1,5 +1,5 @@
 // The largest count present, and the units at each count, written into lent room: of hits, or of misses.
-use crate::states::counted;
+use crate::one_state::counted;
 use basics::larger;
 use rules::BestState;
 use words::best_at;

@@ -16,7 +16,7 @@ ghost use Rattle.words.specs.BestTables.{tableOf};
 
 mod answers;
 mod counts;
-mod states;
+mod one_state;
 mod table;
 
 fn miss_spread_of(words: &[u64], room: &mut [u64]) -> MissCount

@@ -1,5 +1,5 @@
 // Whether the states in some words are a table of the best case.
-use crate::states::is_fitting;
+use crate::one_state::is_fitting;
 use orders::best_before;
 use rules::Units;
 use words::best_at;

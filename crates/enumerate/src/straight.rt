@@ -1,11 +1,11 @@
 // Straight runs: one node, no edges.
-use crate::input::put_straight;
-use crate::numbers::read;
-use crate::numbers::wide;
-use crate::report::Report;
 use crate::sweep::sweep;
+use examined::report::Report;
+use sequences::input::put_straight;
+use sequences::numbers::read;
+use sequences::numbers::wide;
 
-// A row for each kind of run: the numbers of its cache and blocks, as input.rt has them, and three more: how many accesses at least, and fewer than how many; how far
+// A row for each kind of run: the numbers of its cache and blocks, as input.rt of `sequences` has them, and three more: how many accesses at least, and fewer than how many; how far
 // apart the access lists are that are taken.
 const RUNS: [[u32; 13]; 35] = [
     // Three blocks, all tracked, listed in another order than by number.

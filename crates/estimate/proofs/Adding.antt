@@ -1,23 +1,28 @@
 -- States added to a table: it does not matter in which order. Where two come in one after the other they may change places, since the order of states is one and
 -- what is added to a state leaves it in its place; so whole lists may, and lists that are made state by state from a table may be taken apart, each part over the whole table. Two
 -- states of one place come in as their sum does.
-use mathlib.Core.Path.{_≡_, refl, sym, ap, _∙_}
+use mathlib.Core.Path.{_≡_, refl, sym, ap, _∙_, subst}
 use mathlib.Core.Bool.{Bool, true, false, cond}
 use mathlib.Core.List.{List, [], _∷_, _++_, map, flatMap}
-use Prim.Native.Nat.{ℕ, _+_, _≤_}
+use Prim.Native.Nat.{ℕ, zero, suc, _+_, _≤_, _<_}
+use native.Mathlib.Nat.{le-of-suc-le-suc, min-le-left}
 use native.Mathlib.Omega.{arith}
 use lib.Dec.{eqb}
+use lib.ListN.{length, take, drop, length-map, length-take, take-append-drop}
+use lib.Seq.{take-all}
 use borrow.Author.Tests.{eqb-true, eqb-false, eq-eqb, ne-eqb}
 use Rattle.rules.specs.declared.State.{State}
 use Rattle.rules.specs.Units.{whole, more}
 use Rattle.rules.specs.declared.Filled.{Filled}
 use Rattle.rules.specs.Ordered.{Order, before, same, after, insert, inserted, insertAll}
 use Rattle.rules.specs.AnyTable.{add as addAny}
-use Rattle.rules.specs.Table.{state, unitsOf, order, plus, present, add}
+use Rattle.rules.specs.Table.{listing, state, unitsOf, order, rising, plus, present, add, stateAt}
 use Rattle.rules.specs.Shape.{Every}
 use Rattle.rules.proofs.Splitting.{more-adds, more-more}
 use Rattle.rules.proofs.Ordered.{turned, number-same, after-all, state-orders, order-same, states-sort}
-use Rattle.rules.proofs.Table.{add-append}
+use Rattle.rules.proofs.Table.{add-append, rising-is, rising-so, rising-add, length-add-all}
+use Rattle.tables.proofs.Following.{take-next}
+use Rattle.tables.proofs.Insertion.{add-grows}
 
 -- ---- two states
 
@@ -168,3 +173,54 @@ module _ (C m : ℕ) (F : Filled) (a b : ℕ) (few : a + b ≤ whole) where
           rw (ne-eqb (a + b) 0 (λ e. eqb-false a 0 p (omega arith)))
           (ap (λ (u : ℕ). insertAll order plus (state C m F u ∷ []) T) (omega (arith, eqb-true b 0 q)))
       go false false p q = rw (ne-eqb (a + b) 0 (λ e. eqb-false a 0 p (omega arith))) (insert-sum T)
+
+-- ---- what is made of a table's states
+
+-- nothing comes in where nothing is made
+pub add-none : (f : State → State) (S : List State) → Every (λ s. unitsOf (f s) ≡ 0) S → (T : List State) → add (map f S) T ≡ T
+add-none f [] h T = add-nothing T
+add-none f (s ∷ S) h T = add-append (f s ∷ []) (map f S) T ∙ ap (add (map f S)) (add-gone (f s) (h .0) T) ∙ add-none f S (h .1) T
+
+-- in its place
+made-at : (f : State → State) (S : List State) (i : ℕ) → i < length S → stateAt (map f S) i ≡ f (stateAt S i)
+made-at f [] i l = absurd (omega arith)
+made-at f (s ∷ S) zero l = refl
+made-at f (s ∷ S) (suc i) l = made-at f S i (le-of-suc-le-suc l)
+
+-- ---- states that come one by one
+
+module _ (U : List State) where
+  -- the table X with the first i of them
+  abbrev pub added : List State → ℕ → List State
+  added X i = add (take i U) X
+
+  pub added-none : (X : List State) → added X 0 ≡ X
+  added-none X = add-nothing X
+
+  pub added-next : (X : List State) (i : ℕ) (u : State) → i < length U → u ≡ stateAt U i → add (u ∷ []) (added X i) ≡ added X (i + 1)
+  added-next X i u l e = sym (add-append (take i U) (u ∷ []) X) ∙ ap (λ (Y : List State). add Y X) (take-next listing U i u l e)
+
+  pub added-all : (X : List State) (m : ℕ) → length U ≤ m → added X m ≡ add U X
+  added-all X m l = ap (λ (Y : List State). add Y X) (take-all m U l)
+
+  pub added-rising : (X : List State) (i : ℕ) → rising X ≡ true → rising (added X i) ≡ true
+  added-rising X i h = rising-is (added X i) (rising-add (take i U) X (rising-so X h))
+
+  -- with the states that are still to come there are no fewer
+  pub added-room : (X : List State) (i : ℕ) → length (added X i) ≤ length (add U X)
+  added-room X i =
+      subst (λ (Y : List State). length (added X i) ≤ length Y)
+      (sym (add-append (take i U) (drop i U) X) ∙ ap (λ (Y : List State). add Y X) (take-append-drop i U))
+      (add-grows listing (drop i U) (added X i))
+
+  -- and each is one more at most
+  pub added-few : (X : List State) (i : ℕ) → length (added X i) ≤ i + length X
+  added-few X i = omega (arith, length-add-all (take i U) X, length-take i U, min-le-left i (length U))
+
+-- which are made of the states of a table
+module _ (f : State → State) (S X : List State) where
+  pub made-next : (i : ℕ) (s : State) → i < length S → s ≡ stateAt S i → add (f s ∷ []) (added (map f S) X i) ≡ added (map f S) X (i + 1)
+  made-next i s l e = added-next (map f S) X i (f s) (omega (arith, length-map S f)) (ap f e ∙ sym (made-at f S i l))
+
+  pub made-all : (m : ℕ) → length S ≤ m → added (map f S) X m ≡ add (map f S) X
+  made-all m l = added-all (map f S) X m (omega (arith, length-map S f))

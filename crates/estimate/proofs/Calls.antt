@@ -4,9 +4,13 @@ use mathlib.Core.Bool.{Bool, true, false}
 use mathlib.Core.List.{List, []}
 use Prim.Native.Nat.{ℕ, _-_, _/_, _≤_, _<_}
 use native.Mathlib.Omega.{arith}
-use lib.ListN.{length}
+use lib.ListN.{length, replicate}
 use Rattle.rules.specs.declared.Cache.{Cache}
 use Rattle.rules.specs.declared.State.{State}
+use Rattle.rules.specs.declared.Units.{Units}
+use Rattle.rules.specs.declared.Verdict.the-variants.{Accepted}
+use Rattle.rules.specs.declared.Outcome.the-variants.{Refused}
+use Rattle.rules.specs.declared.Refusal.the-variants.{Pairing}
 use Rattle.rules.specs.Input.{Input, inputOf, nodes, edgesOf, joinsTo}
 use Rattle.rules.specs.AnyTable.{Entries, finishedBy as finishedAny}
 use Rattle.rules.specs.Graph.{Worked, tableAt, workedBy, finishedBy, allFit}
@@ -16,7 +20,9 @@ use Rattle.rules.proofs.Rooms.{same-worked, same-fit}
 use Rattle.rules.proofs.Entries.{Formed, formed}
 use Rattle.rules.proofs.Graph.{finished-table, node-table}
 use Rattle.estimate.specs.Rooms.{tableIn, workedIn}
-use Rattle.estimate.specs.Call.{handed}
+use Rattle.rules.specs.Refusals.{verdict}
+use Rattle.calls.proofs.Leaving.{leaves-unfit, leaves-paired}
+use Rattle.estimate.specs.Call.{handed, closed, analysedPaired}
 use Rattle.rules.specs.Table.{listing}
 use Rattle.tables.proofs.Nodes.{tablesIn-at}
 
@@ -51,6 +57,12 @@ module _ (c : Cache) (K : ℕ) (ts ns bs es qs ps rs ws : List ℕ) where
   pub fit-so : (f g : Bool) → f ≡ inForm (joinsOf input) qs ps → f ≡ true → g ≡ allFit (entryOf qs ps) (inputOf c K ts ns bs es) (length ns) → entriesFit input qs ps ≡ g
   unfolding entriesFit
   fit-so f g e z h = rw (← e, z) (sym (h ∙ same-fit c K ts ns bs es (length rs / 5) (length ws / 5) (entryOf qs ps) (length ns)))
+
+  -- what the end of the call leaves is what the call leaves
+  pub closed-leaves : (f : Bool) (T : List State) (a : Units) (k : ℕ) → Accepted ≡ verdict input → entriesFit input qs ps ≡ f → T ≡ finishedBy (entryOf qs ps) input .table
+      → a .0 ≡ finishedBy (entryOf qs ps) input .aside → k ≡ length ws → closed f T a rs k ≡ analysedPaired c K ts ns bs es qs ps rs ws
+  closed-leaves true T a k v f t b e = leaves-paired c K ts ns bs es qs ps rs ws (length T) (a .0) T _ _ v f t b refl refl (ap (λ (n : ℕ). replicate n 0) e)
+  closed-leaves false T a k v f t b e = leaves-unfit c K ts ns bs es qs ps rs ws (Refused Pairing) _ v f refl (ap (λ (n : ℕ). replicate n 0) e)
 
 -- no entries at all have the form
 pub no-form : Formed 0 [] []

@@ -1,237 +1,40 @@
--- Folding a table: the least units, and the first state that has them; how the search for a state's partner goes from place to place among the others, and that it
--- may stop at one that none can beat (the other stops are Partnering's); and that the two replaced by what they become are a fold. What is the same for every kind of table is in
+-- Folding a table: two states replaced by what they become are a fold, if they are the chosen ones. What is the same for every kind of table is in
 -- tables/proofs/Folding. Tables are the first n states of a list.
-use mathlib.Core.Path.{_≡_, refl, sym, ap, _∙_}
-use mathlib.Core.Bool.{Bool, true, false, cond, _&&_, _||_, not, true≢false}
+use mathlib.Core.Path.{_≡_, sym, ap, _∙_}
+use mathlib.Core.Bool.{Bool, true, _&&_, not, true≢false}
 use mathlib.Core.Logic.{_≢_}
 use mathlib.Core.List.{List, [], _∷_}
-use Prim.Native.Nat.{ℕ, suc, _+_, _-_, _≤_, _<_, min}
-use native.Mathlib.Nat.{le-refl}
-use native.Mathlib.Decide.{ℕ-discrete, decLt, decLe}
+use Prim.Native.Nat.{ℕ, suc, _+_, _-_, _*_, _≤_, _<_}
 use native.Mathlib.Omega.{arith}
-use lib.Dec.{eqb, ltb, leb}
-use lib.ListN.{length, set, take, drop, length-set, length-drop}
-use lib.Seq.{getD-take, getD-drop, length-take-le, take-set-lt}
-use borrow.Author.Tests.{lt-ltb, le-ltb, eq-eqb, eqb-true, leb-true, not-true}
+use lib.Dec.{eqb}
+use lib.ListN.{length, set, take, length-set}
+use lib.Seq.{getD-take, length-take-le, take-set-lt}
+use borrow.Author.Tests.{eq-eqb, not-true}
 use Rattle.basics.proofs.Bools.{and-left, and-right}
 use Rattle.rules.specs.declared.State.{State}
 use Rattle.rules.specs.declared.Pair.{Pair}
 use Rattle.rules.specs.declared.Units.{Units}
 use Rattle.rules.specs.Units.{more, addOf}
-use Rattle.rules.specs.Ordered.{same, remove, best}
-use Rattle.rules.specs.AnyTable.{choice as choiceAny, fold as foldAny, foldAt as foldAtAny}
-use Rattle.rules.specs.Table.{unitsOf, order, noState, stateAt, rising, add, listing}
-use Rattle.rules.specs.Fold.{fewer, sharing, apart, closer, choice, meet, changed, fold, states}
+use Rattle.rules.specs.Ordered.{same, remove}
+use Rattle.rules.specs.AnyTable.{fold as foldAny, foldAt as foldAtAny}
+use Rattle.rules.specs.Table.{unitsOf, order, noState, stateAt, rising, add}
+use Rattle.rules.specs.Fold.{choice, meet, changed, fold, states}
 use Rattle.rules.proofs.Lists.{length-remove}
 use Rattle.rules.proofs.Ordered.{in-order-remove}
 use Rattle.rules.proofs.Table.{rising-is, rising-so}
-use Rattle.rules.proofs.Partners.{stays, first-best, past, past-other, among-past, others-at, not-closer}
+use Rattle.rules.proofs.Partners.{past, past-among, among-past, others-at}
 use Rattle.rules.proofs.Replacing.{removed-both, among-within, kept}
 use Rattle.rules.proofs.Fold.{firstOf, secondOf, meetOf}
+use Rattle.words.specs.Tables.{tableOf}
+use Rattle.words.proofs.Tables.{fits-table}
+use Rattle.searches.specs.declared.Two.{Two}
+use Rattle.searches.specs.Searches.{sought}
+use Rattle.searches.proofs.Choosing.{chosen-is}
 use Rattle.estimate.specs.Placing.{isSame, Added}
 use Rattle.estimate.specs.Rooms.{Stands}
-use Rattle.estimate.specs.Partners.{NoneMore, Fewest, Lowest, among, replaced, Replaced}
+use Rattle.estimate.specs.Partners.{among, replaced, Replaced}
 use Rattle.tables.proofs.Insertion.{is-same}
-use Rattle.tables.proofs.Folding.{other-within, Searched, search-turn, search-start, search-end, fewest-within, partner-within}
-
--- none of those that are left is better
-search-stop : (better : State → State → Bool) (R : List State) (k j : ℕ)
-    → ((p : ℕ) → p < length R → better (stateAt R p) (stateAt R k) ≡ false) → Searched listing better R k j → best better R ≡ k
-search-stop better R k j none h =
-    h ∙ stays better noState (stateAt R k) k j (drop j R) (λ p l. rw (getD-drop j R p noState) (none (j + p) (omega (arith, l, length-drop j R))))
-
--- ---- the state of fewest units
-
-module _ (T : List State) where
-  pub fewest-one : (i j u : ℕ) → j ≡ i + 1 → u ≡ unitsOf (stateAt T i) → Fewest T i j u
-  fewest-one i j u next e =
-      record {
-        each = λ q l k. let p : q ≡ i = omega arith in rw (p, e) (le-refl _);
-        has = i;
-        from = le-refl i;
-        to = omega arith;
-        units = sym e;
-      }
-
-  -- two stretches, one behind the other: u is the least of the first, and v that of the second
-  module _ (i j k u v : ℕ) (a : Fewest T i j u) (b : Fewest T j k v) where
-    fewest-first : u ≤ v → Fewest T i k u
-    fewest-first l =
-        record {
-          each = λ q m n. go q m n (decLt q j);
-          has = a .has;
-          from = a .from;
-          to = omega (arith, a .to, b .from, b .to);
-          units = a .units;
-        }
-      where
-        go : (q : ℕ) → i ≤ q → q < k → Dec (q < j) → u ≤ unitsOf (stateAt T q)
-        go q m n (yes d) = a .each q m d
-        go q m n (no d) = omega (arith, l, b .each q (omega (arith, d)) n)
-
-    fewest-second : v ≤ u → Fewest T i k v
-    fewest-second l =
-        record {
-          each = λ q m n. go q m n (decLt q j);
-          has = b .has;
-          from = omega (arith, a .from, a .to, b .from);
-          to = b .to;
-          units = b .units;
-        }
-      where
-        go : (q : ℕ) → i ≤ q → q < k → Dec (q < j) → v ≤ unitsOf (stateAt T q)
-        go q m n (yes d) = omega (arith, l, a .each q m d)
-        go q m n (no d) = b .each q (omega (arith, d)) n
-
-    fewest-both : (r : ℕ) → r ≡ min u v → Fewest T i k r
-    fewest-both r e = go (decLe u v)
-      where
-        go : Dec (u ≤ v) → Fewest T i k r
-        go (yes l) = let d : r ≡ u = omega arith in rw d (fewest-first l)
-        go (no l) = let d : r ≡ v = omega arith in rw d (fewest-second (omega (arith, l)))
-
-  -- four states
-  pub fewest-four : (i : ℕ) (s t u v : State) → s ≡ stateAt T i → t ≡ stateAt T (i + 1) → u ≡ stateAt T (i + 2) → v ≡ stateAt T (i + 3)
-      → (r : ℕ) → r ≡ min (min (unitsOf s) (unitsOf t)) (min (unitsOf u) (unitsOf v)) → Fewest T i (i + 4) r
-  fewest-four i s t u v p q x y =
-      fewest-both i (i + 2) (i + 4) _ _
-      (fewest-both i (i + 1) (i + 2) _ _ (fewest-one i (i + 1) _ refl (ap unitsOf p)) (fewest-one (i + 1) (i + 2) _ (omega arith) (ap unitsOf q)) _ refl)
-      (fewest-both (i + 2) (i + 3) (i + 4) _ _ (fewest-one (i + 2) (i + 3) _ (omega arith) (ap unitsOf x)) (fewest-one (i + 3) (i + 4) _ (omega arith) (ap unitsOf y)) _ refl)
-
-  pub lowest-start : (u : ℕ) → u ≡ unitsOf (stateAt T 0) → Lowest T 1 u 0
-  lowest-start u e = (fewest-one 0 1 u refl e, λ q l. absurd (omega arith))
-
-  -- v is the least of the next states
-  module _ (i j u v f : ℕ) (h : Lowest T i u f) (b : Fewest T i j v) where
-    pub lowest-less : v < u → Lowest T j v i
-    lowest-less l = (b, λ q m. go q m (decLt q f))
-      where
-        go : (q : ℕ) → q < i → Dec (q < f) → v < unitsOf (stateAt T q)
-        go q m (yes d) = omega (arith, l, h .1 q d)
-        go q m (no d) = omega (arith, l, h .0 .each q (omega (arith, d)) m)
-
-    pub lowest-more : u ≤ v → Lowest T j u f
-    lowest-more l = (fewest-first f i j u v (h .0) b l, h .1)
-
-  -- the first of those that have it stands at place i or behind it
-  module _ (n u i : ℕ) (h : Lowest T n u i) where
-    pub lowest-within : i < n
-    lowest-within = omega (arith, h .0 .from, h .0 .to)
-
-    module _ (s : State) (is : s ≡ stateAt T i) where
-      pub lowest-turn : u < unitsOf s → Lowest T n u (i + 1)
-      lowest-turn l = (
-        record {
-          each = λ q m. h .0 .each q (omega arith);
-          has = h .0 .has;
-          from = go (ℕ-discrete (h .0 .has) i);
-          to = h .0 .to;
-          units = h .0 .units;
-        },
-        λ q m. ahead q m (decLt q i),
-      )
-        where
-          more : u < unitsOf (stateAt T i)
-          more = rw is at l
-
-          go : Dec (h .0 .has ≡ i) → i + 1 ≤ h .0 .has
-          go (yes e) = absurd (omega (arith, more, h .0 .units, ap (λ p. unitsOf (stateAt T p)) e))
-          go (no d) = omega (arith, d, h .0 .from)
-
-          ahead : (q : ℕ) → q < i + 1 → Dec (q < i) → u < unitsOf (stateAt T q)
-          ahead q m (yes d) = h .1 q d
-          ahead q m (no d) = let e : q ≡ i = omega (arith, d) in rw e more
-
-      -- it is that one: the first that reaches a bound of all is the first best
-      pub lowest-found : n ≤ length T → unitsOf s ≤ u → best fewer (take n T) ≡ i
-      lowest-found room l =
-          first-best fewer noState (take n T) i
-          record {
-            within = omega (arith, long, lowest-within);
-            ahead = λ q m. rw (here i lowest-within, here q (omega (arith, lowest-within))) (lt-ltb (unitsOf (stateAt T i)) (unitsOf (stateAt T q)) (omega (arith, least, h .1 q m)));
-            behind = λ q m k. rw (here i lowest-within, here q (omega (arith, long))) (le-ltb (unitsOf (stateAt T q)) (unitsOf (stateAt T i)) (omega (arith, least, h .0 .each q (omega arith) (omega (arith, long)))));
-          }
-        where
-          long : length (take n T) ≡ n
-          long = length-take-le n T room
-
-          here : (q : ℕ) → q < n → stateAt (take n T) q ≡ stateAt T q
-          here q m = getD-take n T q noState m
-
-          least : unitsOf (stateAt T i) ≤ u
-          least = rw is at l
-
--- ---- its partner among the others
-
--- the search for the partner of s has come to place j of the states R; the best so far, at place k, shares `most` blocks and is `near` away
-pub record Nearest (s : State) (R : List State) (k most near j : ℕ) : Type 0 where
-  pub search : Searched listing (closer s) R k j
-  pub shares : most ≡ sharing s (stateAt R k)
-  pub away : near ≡ apart s (stateAt R k)
-
--- R are the others than the one at place i
-module _ (T : List State) (n : ℕ) (room : n ≤ length T) (i : ℕ) (among : i < n) (s : State) where
-  abbrev R : List State
-  R = remove i (take n T)
-
-  long : suc (length R) ≡ n
-  long = length-remove i (take n T) (omega (arith, length-take-le n T room)) ∙ length-take-le n T room
-
-  -- t is the state at place j of the others, which stands at place p of the table
-  module _ (j p : ℕ) (t : State) (l : suc j < n) (e : p ≡ cond (ltb j i) j (suc j)) (d : t ≡ stateAt T p) where
-    other : t ≡ stateAt R j
-    other = d ∙ sym (others-at noState i j (take n T) ∙ rw (← e) (getD-take n T p noState (other-within i j p n e l)))
-
-    -- b says whether it is better than the best so far
-    module _ (k most near : ℕ) (b : Bool) (q : b ≡ (ltb most (sharing s t) || (eqb most (sharing s t) && ltb (apart s t) near)))
-        (h : Nearest s R k most near j) where
-      partner-turn : (d : Bool) → b ≡ d → Searched listing (closer s) R (cond d j k) (j + 1)
-      partner-turn d c = search-turn listing (closer s) R k j d (omega (arith, long)) (rw (← other, ← h .shares, ← h .away) (sym q ∙ c)) (h .search)
-
-      pub partner-closer : b ≡ true → Nearest s R j (sharing s t) (apart s t) (j + 1)
-      partner-closer c = record { search = partner-turn true c; shares = ap (sharing s) other; away = ap (apart s) other }
-
-      pub partner-other : b ≡ false → Nearest s R k most near (j + 1)
-      partner-other c = record { search = partner-turn false c; shares = h .shares; away = h .away }
-
-  pub partner-start : (p : ℕ) (t : State) → 1 < n → p ≡ cond (ltb 0 i) 0 1 → t ≡ stateAt T p → Nearest s R 0 (sharing s t) (apart s t) 1
-  partner-start p t l e d =
-      record {
-        search = search-start listing (closer s) R (omega (arith, long));
-        shares = ap (sharing s) (other 0 p t l e d);
-        away = ap (apart s) (other 0 p t l e d);
-      }
-
-  pub partner-end : (k most near j : ℕ) → j + 1 ≡ n → Nearest s R k most near j → k ≡ best (closer s) R
-  partner-end k most near j e h = sym (search-end listing (closer s) R k j (omega (arith, long)) (h .search))
-
-  -- none can beat it
-  pub partner-stop : (k most near j bound : ℕ) (r : Bool) → r ≡ (leb bound most && eqb near 0) → r ≡ true → NoneMore s (take n T) i bound
-      → Nearest s R k most near j → k ≡ best (closer s) R
-  partner-stop k most near j bound r said e none h = sym (search-stop (closer s) R k j unbeaten (h .search))
-    where
-      both : (leb bound most && eqb near 0) ≡ true
-      both = sym said ∙ e
-
-      enough : bound ≤ sharing s (stateAt R k)
-      enough = rw (← h .shares) (leb-true bound most (and-left (leb bound most) _ both))
-
-      nearest : apart s (stateAt R k) ≡ 0
-      nearest = rw (← h .away) (eqb-true near 0 (and-right (leb bound most) _ both))
-
-      unbeaten : (p : ℕ) → p < length R → closer s (stateAt R p) (stateAt R k) ≡ false
-      unbeaten p l = not-closer s (stateAt R p) (stateAt R k) (omega (arith, enough, shares)) (λ d. omega (arith, nearest))
-        where
-          place : past i p < length (take n T)
-          place = omega (arith, length-take-le n T room, other-within i p (past i p) n refl (omega (arith, long)))
-
-          shares : sharing s (stateAt R p) ≤ bound
-          shares = rw (others-at noState i p (take n T)) (none (past i p) place (past-other i p))
-
-  -- both are document 01's choice
-  pub choice-found : (k : ℕ) → s ≡ stateAt T i → best fewer (take n T) ≡ i → k ≡ best (closer s) R → record { fewest = i; partner = k } ≡ choice (take n T)
-  unfolding choiceAny
-  choice-found k d b e = rw (b, getD-take n T i noState among, ← d, e)
+use Rattle.tables.proofs.Folding.{other-within, fewest-within, partner-within}
 
 -- ---- what replaces two states of the first n: i and p are their places, and m comes
 
@@ -305,13 +108,10 @@ module _ (T : List State) (n : ℕ) (room : n ≤ length T) (some : 2 ≤ n) (c 
   first-within : c .fewest < n
   first-within = fewest-within states (take n T) n (length-take-le n T room) some c chosen
 
-  pub second-within : q < n
+  second-within : q < n
   second-within =
       other-within (c .fewest) (c .partner) q n place
       (let l = partner-within states (take n T) n (length-take-le n T room) some c chosen in omega (arith, l))
-
-  pub second-other : q ≢ c .fewest
-  second-other = rw place (past-other (c .fewest) (c .partner))
 
   -- s and t are the two, and m what they become
   module _ (s t m : State) (x : Units) (is-first : s ≡ stateAt T (c .fewest)) (is-second : t ≡ stateAt T q) (sum : x ≡ addOf (s .units) (t .units))
@@ -330,13 +130,40 @@ module _ (T : List State) (n : ℕ) (room : n ≤ length T) (some : 2 ≤ n) (c 
     unfolding addOf
     meet-there = both ∙ rw (sum, second-there, first-there)
 
-    pub fold-stands : (a r b : ℕ) (T′ : List State) → Replaced (c .fewest) q m n r T T′ → b ≡ more a (changed s m + changed t m)
+    replaced-folds : (a r b : ℕ) (T′ : List State) → Replaced (c .fewest) q m n r T T′ → b ≡ more a (changed s m + changed t m)
         → Stands (fold (record { table = take n T; aside = a })) r b T′
     unfolding foldAny foldAtAny replaced
-    fold-stands a r b T′ h e = record { count = h .count ∙ ap length table; table = h .table ∙ table; aside = e ∙ aside }
+    replaced-folds a r b T′ h e = record { count = h .count ∙ ap length table; table = h .table ∙ table; aside = e ∙ aside }
       where
         table : replaced (c .fewest) q m (take n T) ≡ fold (record { table = take n T; aside = a }) .table
         table = rw (place, among-past (c .fewest) (c .partner), meet-there, chosen)
 
         aside : more a (changed s m + changed t m) ≡ fold (record { table = take n T; aside = a }) .aside
         aside = rw (meet-there, second-there, first-there, chosen)
+
+-- d are the two that were sought, in words
+module _ (ws : List ℕ) (n : ℕ) (some : 2 ≤ n) (fits : n * 5 ≤ length ws) (rises : rising (take n (tableOf ws)) ≡ true) (d : Two)
+    (found : d ≡ sought n (tableOf ws)) where
+  enough : n ≤ length (tableOf ws)
+  enough = fits-table ws n fits
+
+  -- by its place among the others the second one is document 01's
+  is-choice : (record { fewest = d .fewest; partner = among (d .fewest) (d .partner) } ≡ choice (take n (tableOf ws))) × (d .partner ≢ d .fewest)
+  is-choice = chosen-is (tableOf ws) n enough rises some d found
+
+  place-found : d .partner ≡ past (d .fewest) (among (d .fewest) (d .partner))
+  place-found = sym (past-among (d .fewest) (d .partner) (is-choice .1))
+
+  pub found-first : d .fewest < n
+  found-first = first-within (tableOf ws) n enough some _ (is-choice .0) _ place-found
+
+  pub found-second : d .partner < n
+  found-second = second-within (tableOf ws) n enough some _ (is-choice .0) _ place-found
+
+  pub found-other : d .partner ≢ d .fewest
+  found-other = is-choice .1
+
+  pub fold-stands : (s t m : State) (x : Units) → s ≡ stateAt (tableOf ws) (d .fewest) → t ≡ stateAt (tableOf ws) (d .partner) → x ≡ addOf (s .units) (t .units)
+      → m ≡ meet s t (x .0) → (a r b : ℕ) (T′ : List State) → Replaced (d .fewest) (d .partner) m n r (tableOf ws) T′ → b ≡ more a (changed s m + changed t m)
+      → Stands (fold (record { table = take n (tableOf ws); aside = a })) r b T′
+  fold-stands = replaced-folds (tableOf ws) n enough some _ (is-choice .0) _ place-found

@@ -110,4 +110,4 @@ module _ (N : ℕ) (x : Target) (S : List State) where
   aside-all a m l = ap (λ (U : List State). more a (sumOver (leftOver N x) U)) (take-all m S l)
 
 pub workable-at : (N : ℕ) (x : Target) (S : List State) → Every (Workable N x) S → (i : ℕ) → Workable N x (stateAt S i)
-workable-at N x S h i = every-at (Workable N x) noState (omega arith, omega arith, omega (arith, size-sub _ 0 (risk-sub N x (record { front = 0; back = 0 }) 0), size-zero)) i S h
+workable-at N x S h i = every-at (Workable N x) noState (omega arith, omega arith, omega (arith, size-sub _ 0 (risk-sub N x (record { front = 0; back = 0 }) 0), size-zero), omega arith) i S h

@@ -6,6 +6,7 @@ use mathlib.Core.List.{List, [], _∷_}
 use Prim.Native.Nat.{ℕ, suc, _≤_}
 use native.Mathlib.Omega.{arith}
 use lib.ListN.{length, take, drop}
+use lib.Pow.{pow-mono}
 use Rattle.rules.specs.declared.Cache.{Cache}
 use Rattle.rules.specs.declared.Last.{Last}
 use Rattle.rules.specs.declared.Target.{Target}
@@ -32,17 +33,17 @@ use Rattle.tables.proofs.Settling.{unit-most, settled-from, stands-there, ran-a
 
 -- ---- an access of a table at a place
 
-module _ (N Z : ℕ) (ts : List ℕ) (few : N ≤ 16) (x : Target) (aim : Aimed Z ts x) where
+module _ (N Z : ℕ) (ts : List ℕ) (few : N ≤ 16) (short : length ts ≤ 16) (x : Target) (aim : Aimed Z ts x) where
   workables : (M : ℕ) (T : List State) → M ≤ 4095 → Every (Shaped N Z ts M) T → Every (λ s. unitsOf s ≤ whole) T → Every (Workable N x) T
   workables M [] l h u = tt
   workables M (s ∷ T) l h u =
-      ((omega (arith, h .0 .0 .few), u .0, room-risk N Z ts few x aim (s .mask) (s .filled) (h .0 .0 .small)), workables M T l (h .1) (u .1))
+      ((omega (arith, h .0 .0 .few), u .0, room-risk N Z ts few x aim (s .mask) (s .filled) (h .0 .0 .small), omega (arith, h .0 .0 .masked, pow-mono short)), workables M T l (h .1) (u .1))
 
   pub workable : (K M : ℕ) (T : List State) → M ≤ 4095 → Table N Z ts K M T → Every (Workable N x) T
   workable K M T l t = workables M T l (t .shaped) (unit-most listing T whole (rw (t .full) (omega arith)))
 
-  pub placed : length ts ≤ 16 → Placed x
-  placed short = (λ i p. omega (arith, short, aim .placed i p), aim .near)
+  pub placed : Placed x
+  placed = (λ i p. omega (arith, short, aim .placed i p), aim .near)
 
 -- what is found out about a block is what an access to it is after
 pub aimed-so : (Z : ℕ) (ts : List ℕ) → among setCounts Z ≡ true → (l : Last) (b : ℕ) (x : Target) → x ≡ targetOf Z ts l b → Aimed Z ts x

@@ -17,7 +17,7 @@ use Rattle.rules.specs.declared.Target.{Target}
 use Rattle.rules.specs.declared.State.{State}
 use Rattle.rules.specs.Contents.{bit, has, hits, with, without}
 use Rattle.rules.specs.Filling.{filledAt, fillOne}
-use Rattle.rules.specs.Ordered.{same, byNumber, thenBy}
+use Rattle.rules.specs.Ordered.{byNumber, thenBy}
 use Rattle.rules.specs.Table.{unitsOf, order}
 use Rattle.rules.specs.Step.{atRisk, missed}
 use Rattle.rules.proofs.Bits.{bit-and, bit-pow, bit-zero, bits-same}

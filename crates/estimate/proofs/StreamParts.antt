@@ -2,29 +2,21 @@
 use mathlib.Core.Path.{_≡_, refl, sym, ap, ap₂, _∙_, subst}
 use mathlib.Core.Logic.{_≢_}
 use mathlib.Core.Bool.{Bool, true, false, cond, true≢false}
-use mathlib.Core.List.{List, [], _∷_, map, map-append}
-use Prim.Native.Nat.{ℕ, suc, _+_, _-_, _*_, _/_, _≤_, _<_}
-use native.Mathlib.Nat.{min-le-left}
+use Prim.Native.Nat.{ℕ, suc, _-_, _*_, _/_, _≤_, _<_}
 use native.Mathlib.Decide.{decLt, ℕ-discrete}
 use native.Mathlib.Omega.{arith}
-use lib.ListN.{length, take, length-map, length-take}
-use lib.Seq.{take-all}
 use lib.Dec.{eqb, ltb}
 use borrow.Author.Tests.{lt-ltb, le-ltb, ltb-false, eq-eqb, ne-eqb}
 use Rattle.rules.specs.declared.Filled.{Filled}
 use Rattle.rules.specs.declared.Target.{Target}
 use Rattle.rules.specs.declared.State.{State}
 use Rattle.rules.specs.Contents.{bit, hits, with, without, shared, size}
-use Rattle.rules.specs.Ordered.{insertAll}
-use Rattle.rules.specs.AnyTable.{add as addAny}
-use Rattle.rules.specs.Table.{listing, state, unitsOf, rising, add, stateAt}
-use Rattle.rules.specs.Step.{atRisk, missed, leftOver}
+use Rattle.rules.specs.Table.{state, unitsOf}
+use Rattle.rules.specs.Step.{atRisk, missed}
 use Rattle.rules.proofs.Bits.{bit-zero}
 use Rattle.rules.proofs.Filling.{no-more}
-use Rattle.rules.proofs.Table.{rising-is, rising-add, add-append, length-add-all}
 use Rattle.estimate.specs.Following.{fuller, missedFrom}
-use Rattle.estimate.specs.Merging.{alone, losing, keptOf, keeping, filling, hitting, part, comes, fills}
-use Rattle.tables.proofs.Following.{take-next}
+use Rattle.estimate.specs.Merging.{losing, keptOf, keeping, filling, hitting, part, comes, fills}
 
 -- ---- what is told of states by the streams that have something of them
 
@@ -64,26 +56,6 @@ module _ (h f : Bool) (E k : ℕ) (e : comes h f E k ≡ true) where
       go true f e = absurd (true≢false (sym e ∙ le-ltb 17 k (omega arith)))
       go false true e = absurd (true≢false (sym e ∙ ne-eqb k 17 (λ p. absurd (omega arith))))
       go false false e = (refl, refl, sym (ap (λ (b : Bool). cond b (bit E k) (eqb k 16)) (lt-ltb k 16 l)) ∙ e)
-
--- ---- and the other way round
-
-module _ (h f : Bool) (E k : ℕ) where
-  pub comes-hit : h ≡ true → ltb 17 k ≡ comes h f E k
-  unfolding comes
-  comes-hit p = rw p
-
-  module _ (p : h ≡ false) where
-    pub comes-fill : f ≡ true → eqb k 17 ≡ comes h f E k
-    unfolding comes
-    comes-fill q = rw (p, q)
-
-    pub comes-lose : f ≡ false → k < 16 → (r : Bool) → r ≡ bit E k → r ≡ comes h f E k
-    unfolding comes
-    comes-lose q l r e = rw (p, q, lt-ltb k 16 l) e
-
-    pub comes-keep : f ≡ false → 16 ≤ k → eqb k 16 ≡ comes h f E k
-    unfolding comes
-    comes-keep q l = rw (p, q, le-ltb k 16 l)
 
 -- ---- by the number of the stream
 
@@ -183,34 +155,3 @@ kept-none N E u z = rw (eq-eqb E 0 z)
 
 pub kept-share : (N E u z q : ℕ) → E ≢ 0 → z ≡ size E → q ≡ u / N → (N - z) * q ≡ keptOf N E u
 kept-share N E u z q n e p = rw (ne-eqb E 0 n, e, p)
-
--- ---- what is left over
-
-pub alone-is : (N : ℕ) (x : Target) (s t r : State) (u : ℕ) → u ≡ leftOver N x s → t ≡ fuller N x s → r ≡ missedFrom x t 0 u → r ≡ alone N x s
-unfolding alone
-alone-is N x s t r u e p h = h ∙ ap₂ (λ (t : State) (u : ℕ). missedFrom x t 0 u) p e
-
-module _ (N : ℕ) (x : Target) (S : List State) where
-  -- that of the first i states, added
-  abbrev pub over : ℕ → List State
-  over i = add (map (alone N x) (take i S)) []
-
-  pub over-none : over 0 ≡ []
-  unfolding addAny insertAll
-  over-none = refl
-
-  pub over-rising : (i : ℕ) → rising (over i) ≡ true
-  over-rising i = rising-is (over i) (rising-add (map (alone N x) (take i S)) [] tt)
-
-  -- one state more
-  pub over-next : (i : ℕ) (s : State) → i < length S → s ≡ stateAt S i → add (alone N x s ∷ []) (over i) ≡ over (i + 1)
-  over-next i s l e =
-      sym (add-append (map (alone N x) (take i S)) (alone N x s ∷ []) [])
-      ∙ ap (λ (U : List State). add U []) (sym (map-append (alone N x) (take i S) (s ∷ [])) ∙ ap (map (alone N x)) (take-next listing S i s l e))
-
-  pub over-room : (i n : ℕ) → n ≡ length (over i) → n ≤ i
-  over-room i n e =
-      omega (arith, length-add-all (map (alone N x) (take i S)) [], length-map (take i S) (alone N x), length-take i S, min-le-left i (length S))
-
-  pub over-all : (m : ℕ) → length S ≤ m → over m ≡ add (map (alone N x) S) []
-  over-all m l = ap (λ (U : List State). add (map (alone N x) U) []) (take-all m S l)

@@ -1,6 +1,6 @@
 -- The states that follow a state, in the order in which they are put in.
 use mathlib.Core.List.{List}
-use Prim.Native.Nat.{ℕ, _≤_, _<_}
+use Prim.Native.Nat.{ℕ, _^_, _≤_, _<_}
 use Rattle.rules.specs.declared.Target.{Target}
 use Rattle.rules.specs.declared.State.{State}
 use Rattle.rules.specs.Units.{whole}
@@ -23,6 +23,6 @@ lostAt x s E q e = lostAny (losing x s q) E e
 abbrev pub Placed : Target → Type 0
 Placed x = Listed 16 (x .place) × (x .set < 16)
 
--- a state that can be worked: few enough misses for one more, no more units than WHOLE, no more blocks of the accessed set than N ways
+-- a state that can be worked: few enough misses for one more, no more units than WHOLE, no more blocks of the accessed set than N ways, a mask of sixteen places
 abbrev pub Workable : ℕ → Target → State → Type 0
-Workable N x s = (s .misses ≤ 4095) × (unitsOf s ≤ whole) × (size (atRisk N x (s .filled) (s .mask)) ≤ N)
+Workable N x s = (s .misses ≤ 4095) × (unitsOf s ≤ whole) × (size (atRisk N x (s .filled) (s .mask)) ≤ N) × (s .mask < 2 ^ 16)

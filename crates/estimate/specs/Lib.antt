@@ -6,7 +6,15 @@ pub mod Rooms
 pub mod Following
 -- The states that follow as streams, and streams merged
 pub mod Merging
--- The partner in a fold
+-- What becomes of runs that evict
+pub mod Sharing
+-- What is still to come of runs
+pub mod ToCome
+-- Runs split, and what is left over of them
+pub mod Splitting
+-- A run in one stream
+pub mod Going
+-- What replaces two states in a fold
 pub mod Partners
 -- Joining two tables
 pub mod Pairing

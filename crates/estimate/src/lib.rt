@@ -1,4 +1,5 @@
 // The estimate: from one access to a whole graph, in memory that the caller lends.
+use crate::finish::close;
 use crate::finish::hand_over;
 use crate::graph::work_nodes;
 use calls::refuse_pairing;
@@ -14,6 +15,7 @@ ghost use Rattle.rules.specs.Refusals.{verdict};
 ghost use Rattle.estimate.specs.Call.{handed, analysed, analysedPaired};
 
 mod access;
+mod coming;
 mod finish;
 mod fold;
 mod graph;
@@ -22,7 +24,10 @@ mod join;
 mod memory;
 mod merge;
 mod placing;
+mod rests;
 mod run;
+mod run_list;
+mod shares;
 mod slots;
 mod tally;
 
@@ -39,8 +44,6 @@ pub fn analyse(
 ) -> Outcome
     ensures { λ r. ⌜ record { answer = r; result = now (result .exit); work = now (work .exit) } ≡ analysed cache limit (now (tracked .entry)) (now (runs .entry)) (now (accesses .entry)) (now (edges .entry)) (now (result .entry)) (now (work .entry)) ⌝ }
 {
-    let result_room = result.len() / 5;
-    let working_room = work.len() / 5;
     match judge(
         cache,
         limit,
@@ -48,8 +51,8 @@ pub fn analyse(
         runs,
         accesses,
         edges,
-        result_room,
-        working_room,
+        result.len() / 5,
+        work.len() / 5,
     ) {
         Verdict::Refused(reason) => Outcome::Refused(reason),
         Verdict::Accepted => {
@@ -101,12 +104,7 @@ fn work_paired(
         counts,
         rows,
     );
-    if !done.fits {
-        return refuse_pairing(work);
-    }
-    let states = hand_over(result, work, runs.len() - 1);
-    let aside = done.aside;
-    Outcome::Finished(states, aside)
+    close(result, work, runs.len() - 1, done)
 }
 
 // The graph call with a pairing or none for each join: `counts` has for each join how many rows its pairing has, or `pairings::NONE`, and `rows` has the
@@ -125,8 +123,6 @@ pub fn analyse_paired(
 ) -> Outcome
     ensures { λ r. ⌜ record { answer = r; result = now (result .exit); work = now (work .exit) } ≡ analysedPaired cache limit (now (tracked .entry)) (now (runs .entry)) (now (accesses .entry)) (now (edges .entry)) (now (counts .entry)) (now (rows .entry)) (now (result .entry)) (now (work .entry)) ⌝ }
 {
-    let result_room = result.len() / 5;
-    let working_room = work.len() / 5;
     match judge(
         cache,
         limit,
@@ -134,8 +130,8 @@ pub fn analyse_paired(
         runs,
         accesses,
         edges,
-        result_room,
-        working_room,
+        result.len() / 5,
+        work.len() / 5,
     ) {
         Verdict::Refused(reason) => Outcome::Refused(reason),
         Verdict::Accepted => work_paired(

@@ -1,7 +1,6 @@
 // Tables in lent words: five words a state. One state is read and written here only.
-use rules::Filled;
 use rules::State;
-use rules::Units;
+use words::state_at;
 ghost use mathlib.Core.Path.{_≡_};
 ghost use mathlib.Core.Logic.{_⊎_};
 ghost use Prim.Native.Nat.{_+_, _*_, _≤_};
@@ -16,15 +15,7 @@ pub(crate) fn load(words: &[u64], at: usize) -> State
     ensures { λ r. ⌜ r ≡ stateAt (tableOf (now (words .entry))) at ⌝ }
 {
     let base = at * 5;
-    State {
-        mask: words[base],
-        misses: words[base + 1],
-        filled: Filled {
-            front: words[base + 2],
-            back: words[base + 3],
-        },
-        units: Units(words[base + 4]),
-    }
+    state_at(&words[base..base + 5], 0)
 }
 
 // The table with `s` at place `at`.

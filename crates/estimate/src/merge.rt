@@ -1,40 +1,39 @@
-// One access by merging. What is left over of each state comes first, each in its place. Then the states of the table are taken run by run: those of one mask that follow each
-// other, and fill an empty way or do not. What becomes of a run in one stream stands in order, and is merged into the table: the place where a state belongs is never before
-// that of the one that came before it.
+// One access by merging. The table's states are taken in runs: those of one mask that follow each other, and fill an empty way or do not. What is left over of each state comes first, each
+// in its place. Then the runs come in one stream after the other, that of the lowest contents first. What becomes of a run in one stream stands in order, and is merged into the
+// scratch: the place where a state belongs is never before that of the one that came before it, and mostly behind all others.
 use crate::access::gather_each;
+use crate::coming::put_heads;
 use crate::memory::load;
 use crate::placing::Reached;
-use crate::placing::put_near;
 use crate::placing::put_on;
+use crate::rests::split_runs;
+use crate::run_list::list_runs;
+use crate::shares::lay_shares;
+use crate::shares::put_shares;
 use crate::tally::Tally;
 use rules::State;
 use rules::Target;
 use rules::Units;
-use states::step::fills;
 use states::step::fuller;
 use states::step::goes_on;
-use states::step::held_of;
-use states::step::left_over;
 use states::step::missed;
-use tables::has_block;
-use tables::has_place;
 use tables::size_of;
-use tables::without_place;
 ghost use mathlib.Core.Path.{_≡_};
 ghost use mathlib.Core.Logic.{_≢_};
-ghost use mathlib.Core.Bool.{true, false};
+ghost use mathlib.Core.Bool.{true};
 ghost use mathlib.Core.List.{[], _∷_, map};
-ghost use Prim.Native.Nat.{suc, _+_, _-_, _*_, _≤_, _<_};
+ghost use Prim.Native.Nat.{suc, _+_, _*_, _≤_, _<_};
 ghost use lib.ListN.{length, take, drop};
 ghost use Rattle.rules.specs.Contents.{hits, shared, size};
 ghost use Rattle.rules.specs.Ordered.{insert};
 ghost use Rattle.rules.specs.Shape.{Every};
-ghost use Rattle.rules.specs.Step.{leftOver, access, accessAside};
+ghost use Rattle.rules.specs.Step.{access, accessAside};
 ghost use Rattle.rules.specs.Table.{unitsOf, order, plus as plusOf, rising, add, stateAt};
 ghost use Rattle.rules.specs.Units.{whole, more};
 ghost use Rattle.words.specs.Tables.{tableOf};
 ghost use Rattle.estimate.specs.Following.{Placed, Workable};
-ghost use Rattle.estimate.specs.Merging.{alone, keptOf, part, inAll, comes as comesOf, fills as fillsOf, InRun, Alike, Onward, Words};
+ghost use Rattle.estimate.specs.Going.{timesOf, Goes};
+ghost use Rattle.estimate.specs.Merging.{keptOf, part, comes as comesOf, fills as fillsOf, InRun, Onward, Words};
 ghost use Rattle.estimate.specs.Placing.{placeOf, Passed};
 ghost use Rattle.estimate.specs.Rooms.{InScratch};
 
@@ -51,9 +50,9 @@ pub(crate) fn kept_of(risk: u64, ways: u64, units: Units) -> Units
     Units((ways - size_of(risk)) * part.0)
 }
 
-// What becomes of `s` in stream `k`, which has something of such states.
+// What becomes of `s` in stream `k`, which loses nothing and has something of such states.
 pub(crate) fn part_of(s: State, x: Target, ways: u64, k: usize) -> State
-    requires { ⌜ Placed x × Workable ways x s × (ways ≤ 16) × (comesOf (hits x (s .mask)) (fillsOf ways x s) (shared (s .mask) (x .mates)) k ≡ true) ⌝ }
+    requires { ⌜ Placed x × Workable ways x s × (ways ≤ 16) × (comesOf (hits x (s .mask)) (fillsOf ways x s) (shared (s .mask) (x .mates)) k ≡ true) × (16 ≤ k) ⌝ }
     ensures { λ r. ⌜ (r ≡ part ways x k s) × Words s ⌝ }
 {
     if 17 < k {
@@ -63,60 +62,7 @@ pub(crate) fn part_of(s: State, x: Target, ways: u64, k: usize) -> State
     if k == 17 {
         return missed(fuller(s, x, ways), x, s.mask, u);
     }
-    if k == 16 {
-        return missed(s, x, s.mask, kept_of(s.mask & x.mates, ways, u));
-    }
-    missed(s, x, without_place(s.mask, k), u.split(ways).part)
-}
-
-// Where `rest` goes, what is left over of `s`.
-pub(crate) fn alone_of(s: State, x: Target, ways: u64, rest: Units) -> State
-    requires { ⌜ Placed x × (s .misses ≤ 4095) × (ways ≤ 16) × (rest .0 ≡ leftOver ways x s) ⌝ }
-    ensures { λ r. ⌜ r ≡ alone ways x s ⌝ }
-{
-    missed(fuller(s, x, ways), x, 0, rest)
-}
-
-// `s`, what is left over of a state, added to the first `reached.states` states of the scratch. It is sought from behind the one that came before it, if that stands before it: what
-// is left over of a table's states does not stand in order.
-pub(crate) fn add_rest(work: &mut [u64], reached: Reached, s: State) -> Reached
-    requires { ⌜ (reached .at ≤ reached .states) × (20480 + reached .states * 5 + 5 ≤ length (now work)) × (rising (take (reached .states) (drop 4096 (tableOf (now work)))) ≡ true) ⌝ }
-    ensures { λ r. ⌜ InScratch (add (s ∷ []) (take (reached .states) (drop 4096 (tableOf (now (work .entry)))))) (r .states) (tableOf (now (work .entry))) (tableOf (now (work .exit))) × (r .at ≤ r .states) ⌝ }
-{
-    let u = s.units;
-    if u.0 == 0 {
-        return reached;
-    }
-    put_near(&mut work[20480..], reached.at, reached.states, s)
-}
-
-// What is left over of the `m` states at place `from`, added in the scratch, which is empty at first, and counted.
-pub(crate) fn gather_rests(
-    work: &mut [u64],
-    from: usize,
-    m: usize,
-    x: Target,
-    ways: u64,
-    aside: Units,
-) -> Tally
-    requires { ⌜ Placed x × (ways ≤ 16) × (m ≤ 64) × (from + m ≤ 4096) × (25920 ≤ length (now work)) × (aside .0 ≤ whole) × Every (Workable ways x) (take m (drop from (tableOf (now work)))) ⌝ }
-    ensures { λ r. ⌜ InScratch (add (map (alone ways x) (take m (drop from (tableOf (now (work .entry)))))) []) (r .states) (tableOf (now (work .entry))) (tableOf (now (work .exit))) ⌝ }
-    ensures { λ r. ⌜ r .aside .0 ≡ more (aside .0) (accessAside ways x (take m (drop from (tableOf (now (work .entry)))))) ⌝ }
-{
-    let mut so_far = Reached { states: 0, at: 0 };
-    let mut count = aside;
-    let mut i: usize = 0;
-    while i < m {
-        let s = load(work, from + i);
-        let rest = left_over(s, x, ways);
-        so_far = add_rest(work, so_far, alone_of(s, x, ways, rest));
-        count = count.add(rest);
-        i += 1;
-    }
-    Tally {
-        states: so_far.states,
-        aside: count,
-    }
+    missed(s, x, s.mask, kept_of(s.mask & x.mates, ways, u))
 }
 
 // `s` put into the first `n` states of the scratch, of which the first `from` stand before it.
@@ -127,7 +73,7 @@ pub(crate) fn put_to_scratch(work: &mut [u64], from: usize, n: usize, s: State) 
     put_on(&mut work[20480..], from, n, s)
 }
 
-// What becomes of `s` in stream `k`, the next state of a run, put to the scratch, where the run has come to `reached`.
+// What becomes of `s` in stream `k`, which loses nothing, the next state of a run, put to the scratch, where the run has come to `reached`.
 pub(crate) fn put_next(
     work: &mut [u64],
     reached: Reached,
@@ -136,7 +82,7 @@ pub(crate) fn put_next(
     ways: u64,
     k: usize,
 ) -> Reached
-    requires { ⌜ Placed x × Workable ways x s × (ways ≤ 16) × (comesOf (hits x (s .mask)) (fillsOf ways x s) (shared (s .mask) (x .mates)) k ≡ true) × (reached .at ≤ reached .states) × (20480 + reached .states * 5 ≤ length (now work)) × (20480 + length (add (part ways x k s ∷ []) (take (reached .states) (drop 4096 (tableOf (now work))))) * 5 ≤ length (now work)) × (rising (take (reached .states) (drop 4096 (tableOf (now work)))) ≡ true) × (Words s → unitsOf (part ways x k s) ≢ 0 → Passed (part ways x k s) (take (reached .states) (drop 4096 (tableOf (now work)))) (reached .at)) ⌝ }
+    requires { ⌜ Placed x × Workable ways x s × (ways ≤ 16) × (comesOf (hits x (s .mask)) (fillsOf ways x s) (shared (s .mask) (x .mates)) k ≡ true) × (reached .at ≤ reached .states) × (20480 + reached .states * 5 ≤ length (now work)) × (20480 + length (add (part ways x k s ∷ []) (take (reached .states) (drop 4096 (tableOf (now work))))) * 5 ≤ length (now work)) × (rising (take (reached .states) (drop 4096 (tableOf (now work)))) ≡ true) × (Words s → unitsOf (part ways x k s) ≢ 0 → Passed (part ways x k s) (take (reached .states) (drop 4096 (tableOf (now work)))) (reached .at)) × (16 ≤ k) ⌝ }
     ensures { λ r. ⌜ InScratch (add (part ways x k s ∷ []) (take (reached .states) (drop 4096 (tableOf (now (work .entry)))))) (r .states) (tableOf (now (work .entry))) (tableOf (now (work .exit))) × Onward ways x k s (take (reached .states) (drop 4096 (tableOf (now (work .entry))))) (reached .at) (r .at) ⌝ }
 {
     let t = part_of(s, x, ways, k);
@@ -147,20 +93,25 @@ pub(crate) fn put_next(
     put_to_scratch(work, reached.at, reached.states, t)
 }
 
-// The `m` states at place `from`, a run, put in stream `k` to the first `n` states of the scratch; how many states it then has.
-pub(crate) fn put_run(
+// The `m` states at place `from`, a run, put in stream `k`, which loses nothing, to the first `n` states of the scratch, of which the first `near` have contents below those that it comes
+// to; how many states it then has.
+pub(crate) fn put_whole(
     work: &mut [u64],
     n: usize,
+    near: usize,
     from: usize,
     m: usize,
     x: Target,
     ways: u64,
     k: usize,
 ) -> usize
-    requires { ⌜ Placed x × (ways ≤ 16) × (from + m ≤ 4096) × (25920 ≤ length (now work)) × (n ≡ length (take n (drop 4096 (tableOf (now work))))) × (rising (take n (drop 4096 (tableOf (now work)))) ≡ true) × (length (add (map (part ways x k) (take m (drop from (tableOf (now work))))) (take n (drop 4096 (tableOf (now work))))) ≤ 1088) × (rising (take m (drop from (tableOf (now work)))) ≡ true) × Every (Workable ways x) (take m (drop from (tableOf (now work)))) × Every (λ s. comesOf (hits x (s .mask)) (fillsOf ways x s) (shared (s .mask) (x .mates)) k ≡ true) (take m (drop from (tableOf (now work)))) ⌝ }
+    requires { ⌜ Placed x × (ways ≤ 16) × (from + m ≤ 4096) × (25920 ≤ length (now work)) × (n ≡ length (take n (drop 4096 (tableOf (now work))))) × (rising (take n (drop 4096 (tableOf (now work)))) ≡ true) × (length (add (map (part ways x k) (take m (drop from (tableOf (now work))))) (take n (drop 4096 (tableOf (now work))))) ≤ 1088) × (rising (take m (drop from (tableOf (now work)))) ≡ true) × Every (Workable ways x) (take m (drop from (tableOf (now work)))) × Every (λ s. comesOf (hits x (s .mask)) (fillsOf ways x s) (shared (s .mask) (x .mates)) k ≡ true) (take m (drop from (tableOf (now work)))) × (near ≤ n) × Every (λ s. Every (λ t. t .mask < part ways x k s .mask) (take near (take n (drop 4096 (tableOf (now work)))))) (take m (drop from (tableOf (now work)))) × (16 ≤ k) ⌝ }
     ensures { λ r. ⌜ InScratch (add (map (part ways x k) (take m (drop from (tableOf (now (work .entry)))))) (take n (drop 4096 (tableOf (now (work .entry)))))) r (tableOf (now (work .entry))) (tableOf (now (work .exit))) ⌝ }
 {
-    let mut so_far = Reached { states: n, at: 0 };
+    let mut so_far = Reached {
+        states: n,
+        at: near,
+    };
     let mut i: usize = 0;
     while i < m {
         let s = load(work, from + i);
@@ -170,74 +121,50 @@ pub(crate) fn put_run(
     so_far.states
 }
 
-// The same, or nothing, where stream `k` has nothing of such states.
-pub(crate) fn put_if(
+// The parts of how many ways come in stream `k`, where the blocks of `held` can be lost; 0 where nothing is split.
+pub(crate) fn times_of(held: u64, ways: u64, k: usize) -> u64
+    requires { ⌜ (k ≡ 16 → size held ≤ ways) ⌝ }
+    ensures { λ r. ⌜ r ≡ timesOf ways held k ⌝ }
+{
+    if k < 16 {
+        return 1;
+    }
+    if 16 < k {
+        return 0;
+    }
+    if held == 0 {
+        return 0;
+    }
+    ways - size_of(held)
+}
+
+// The `m` states at place `from + start`, a run of contents `mask`, put in stream `k`, where they come to the contents `to`, to the first `n` states of the scratch, of which the first
+// `near` have contents below; how many states it then has. Their parts of one way stand in `parts`, from place `start` on.
+pub(crate) fn put_run(
     work: &mut [u64],
+    parts: &[u64],
     n: usize,
+    near: usize,
     from: usize,
+    start: usize,
     m: usize,
     x: Target,
     ways: u64,
     k: usize,
-    some: bool,
+    to: u64,
+    mask: u64,
 ) -> usize
-    requires { ⌜ Placed x × (ways ≤ 16) × (from + m ≤ 4096) × (25920 ≤ length (now work)) × (n ≡ length (take n (drop 4096 (tableOf (now work))))) × (rising (take n (drop 4096 (tableOf (now work)))) ≡ true) × (length (add (map (part ways x k) (take m (drop from (tableOf (now work))))) (take n (drop 4096 (tableOf (now work))))) ≤ 1088) × (rising (take m (drop from (tableOf (now work)))) ≡ true) × Every (Workable ways x) (take m (drop from (tableOf (now work)))) × Every (λ s. comesOf (hits x (s .mask)) (fillsOf ways x s) (shared (s .mask) (x .mates)) k ≡ some) (take m (drop from (tableOf (now work)))) ⌝ }
-    ensures { λ r. ⌜ InScratch (add (map (part ways x k) (take m (drop from (tableOf (now (work .entry)))))) (take n (drop 4096 (tableOf (now (work .entry)))))) r (tableOf (now (work .entry))) (tableOf (now (work .exit))) ⌝ }
+    requires { ⌜ Placed x × (ways ≤ 16) × (1 ≤ m) × (from + start + m ≤ 4096) × (start + m ≤ length (now parts)) × (25920 ≤ length (now work)) × (n ≡ length (take n (drop 4096 (tableOf (now work))))) × (rising (take n (drop 4096 (tableOf (now work)))) ≡ true) × (length (add (map (part ways x k) (take m (drop (from + start) (tableOf (now work))))) (take n (drop 4096 (tableOf (now work))))) ≤ 1088) × (near ≤ n) × Every (λ t. t .mask < to) (take near (take n (drop 4096 (tableOf (now work))))) × Goes ways x k mask to (take m (drop (from + start) (tableOf (now work)))) (take m (drop start (now parts))) ⌝ }
+    ensures { λ r. ⌜ InScratch (add (map (part ways x k) (take m (drop (from + start) (tableOf (now (work .entry)))))) (take n (drop 4096 (tableOf (now (work .entry)))))) r (tableOf (now (work .entry))) (tableOf (now (work .exit))) ⌝ }
 {
-    if some {
-        return put_run(work, n, from, m, x, ways, k);
+    let times = times_of(mask & x.mates, ways, k);
+    if times == 0 {
+        return put_whole(work, n, near, from + start, m, x, ways, k);
     }
-    n
-}
-
-// The `m` states at place `from`, a run that misses and fills no empty way, put to the first `n` states of the scratch as they lose each block of `held` in turn; how many
-// states it then has.
-pub(crate) fn lose_places(
-    work: &mut [u64],
-    n: usize,
-    from: usize,
-    m: usize,
-    x: Target,
-    ways: u64,
-    held: u64,
-) -> usize
-    requires { ⌜ Placed x × (ways ≤ 16) × (from + m ≤ 4096) × (25920 ≤ length (now work)) × (n ≡ length (take n (drop 4096 (tableOf (now work))))) × (rising (take n (drop 4096 (tableOf (now work)))) ≡ true) × (length (add (inAll ways x (take m (drop from (tableOf (now work)))) 16) (take n (drop 4096 (tableOf (now work))))) ≤ 1088) × (rising (take m (drop from (tableOf (now work)))) ≡ true) × Every (Workable ways x) (take m (drop from (tableOf (now work)))) × Every (Alike ways x false false held) (take m (drop from (tableOf (now work)))) ⌝ }
-    ensures { λ r. ⌜ InScratch (add (inAll ways x (take m (drop from (tableOf (now (work .entry))))) 16) (take n (drop 4096 (tableOf (now (work .entry)))))) r (tableOf (now (work .entry))) (tableOf (now (work .exit))) ⌝ }
-{
-    let mut states = n;
-    let mut k: usize = 0;
-    while k < 16 {
-        let some = has_place(held, k);
-        states = put_if(work, states, from, m, x, ways, k, some);
-        k += 1;
+    if n <= near {
+        return lay_shares(work, parts, n, from, start, m, to, times);
     }
-    states
-}
-
-// The `m` states at place `from`, a run, put to the first `n` states of the scratch in each stream that has something of it; how many states it then has. They are hits, or fill
-// an empty way, or can lose the blocks of `held`.
-pub(crate) fn follow(
-    work: &mut [u64],
-    n: usize,
-    from: usize,
-    m: usize,
-    x: Target,
-    ways: u64,
-    hit: bool,
-    filling: bool,
-    held: u64,
-) -> usize
-    requires { ⌜ Placed x × (ways ≤ 16) × (from + m ≤ 4096) × (25920 ≤ length (now work)) × (n ≡ length (take n (drop 4096 (tableOf (now work))))) × (rising (take n (drop 4096 (tableOf (now work)))) ≡ true) × (length (add (inAll ways x (take m (drop from (tableOf (now work)))) 19) (take n (drop 4096 (tableOf (now work))))) ≤ 1088) × (rising (take m (drop from (tableOf (now work)))) ≡ true) × Every (Workable ways x) (take m (drop from (tableOf (now work)))) × Every (Alike ways x hit filling held) (take m (drop from (tableOf (now work)))) ⌝ }
-    ensures { λ r. ⌜ InScratch (add (inAll ways x (take m (drop from (tableOf (now (work .entry))))) 19) (take n (drop 4096 (tableOf (now (work .entry)))))) r (tableOf (now (work .entry))) (tableOf (now (work .exit))) ⌝ }
-{
-    if hit {
-        return put_run(work, n, from, m, x, ways, 18);
-    }
-    if filling {
-        return put_run(work, n, from, m, x, ways, 17);
-    }
-    let states = lose_places(work, n, from, m, x, ways, held);
-    put_run(work, states, from, m, x, ways, 16)
+    put_shares(work, parts, n, near, from, start, m, to, times)
 }
 
 // How many of the `m` states at place `from`, the first of which goes on with a run, do.
@@ -264,54 +191,6 @@ pub(crate) fn run_of(
     i
 }
 
-// The first run of the states from place `from` to place `to`, put in each stream to the first `n` states of the scratch; how many states it then has, and the place behind
-// the run.
-pub(crate) fn follow_run(
-    work: &mut [u64],
-    n: usize,
-    from: usize,
-    to: usize,
-    x: Target,
-    ways: u64,
-) -> Reached
-    requires { ⌜ Placed x × (ways ≤ 16) × (from < to) × (to ≤ 4096) × (25920 ≤ length (now work)) × (n ≡ length (take n (drop 4096 (tableOf (now work))))) × (rising (take n (drop 4096 (tableOf (now work)))) ≡ true) × (length (add (inAll ways x (take (to - from) (drop from (tableOf (now work)))) 19) (take n (drop 4096 (tableOf (now work))))) ≤ 1088) × (rising (take (to - from) (drop from (tableOf (now work)))) ≡ true) × Every (Workable ways x) (take (to - from) (drop from (tableOf (now work)))) ⌝ }
-    ensures { λ r. ⌜ (from < r .at) × (r .at ≤ to) × InScratch (add (inAll ways x (take (r .at - from) (drop from (tableOf (now (work .entry))))) 19) (take n (drop 4096 (tableOf (now (work .entry)))))) (r .states) (tableOf (now (work .entry))) (tableOf (now (work .exit))) ⌝ }
-{
-    let first = load(work, from);
-    let place = x.place;
-    let hit = has_block(first.mask, x.again, place);
-    let held = held_of(first.mask, x);
-    let filling = fills(first, x, ways);
-    let m = run_of(work, from, to - from, x, ways, first.mask, filling);
-    let states = follow(work, n, from, m, x, ways, hit, filling, held);
-    Reached {
-        states,
-        at: from + m,
-    }
-}
-
-// The states from place `from` to place `to`, run by run, put in each stream to the first `n` states of the scratch; how many states it then has.
-pub(crate) fn follow_all(
-    work: &mut [u64],
-    n: usize,
-    from: usize,
-    to: usize,
-    x: Target,
-    ways: u64,
-) -> usize
-    requires { ⌜ Placed x × (ways ≤ 16) × (from ≤ to) × (to ≤ 4096) × (25920 ≤ length (now work)) × (n ≡ length (take n (drop 4096 (tableOf (now work))))) × (rising (take n (drop 4096 (tableOf (now work)))) ≡ true) × (length (add (inAll ways x (take (to - from) (drop from (tableOf (now work)))) 19) (take n (drop 4096 (tableOf (now work))))) ≤ 1088) × (rising (take (to - from) (drop from (tableOf (now work)))) ≡ true) × Every (Workable ways x) (take (to - from) (drop from (tableOf (now work)))) ⌝ }
-    ensures { λ r. ⌜ InScratch (add (inAll ways x (take (to - from) (drop from (tableOf (now (work .entry))))) 19) (take n (drop 4096 (tableOf (now (work .entry)))))) r (tableOf (now (work .entry))) (tableOf (now (work .exit))) ⌝ }
-{
-    let mut states = n;
-    let mut at = from;
-    while at < to {
-        let run = follow_run(work, states, at, to, x, ways);
-        states = run.states;
-        at = run.at;
-    }
-    states
-}
-
 // The states that follow the `m` states at place `from`, in the scratch, which is empty at first. Few states are not worth the merging.
 pub(crate) fn gather(
     work: &mut [u64],
@@ -328,8 +207,21 @@ pub(crate) fn gather(
     if m <= 3 {
         return gather_each(work, from, m, x, ways, aside);
     }
-    let rests = gather_rests(work, from, m, x, ways, aside);
-    let states = follow_all(work, rests.states, from, from + m, x, ways);
-    let aside = rests.aside;
+    let mut parts: [u64; 64] = [0; 64];
+    let mut heads: [u64; 65] = [18446744073709551615; 65];
+    let count = list_runs(work, &mut heads, from, m, x, ways);
+    let rests = split_runs(work, &mut parts, &heads, count, from, m, x, ways);
+    let states = put_heads(
+        work,
+        &parts,
+        &mut heads,
+        count,
+        rests.states,
+        from,
+        m,
+        x,
+        ways,
+    );
+    let aside = aside.add(Units(rests.left));
     Tally { states, aside }
 }

@@ -144,27 +144,41 @@ pub(crate) fn put_on(words: &mut [u64], from: usize, n: usize, s: State) -> Reac
     Reached { states, at: at + 1 }
 }
 
-// How many of the first `n` states are seen to stand before `s`: the first `near`, or none.
-pub(crate) fn passed(words: &[u64], near: usize, n: usize, s: State) -> usize
-    requires { ⌜ (near ≤ n) × (n * 5 ≤ length (now words)) × (rising (take n (tableOf (now words))) ≡ true) ⌝ }
-    ensures { λ r. ⌜ (r ≤ n) × Passed s (take n (tableOf (now (words .entry)))) r ⌝ }
+// Where a state of `misses` misses may stand, from the state at place `at` on: as far away as its misses are from those. Nothing rests on it: what stands there is looked at.
+pub(crate) fn guess_about(words: &[u64], at: usize, n: usize, misses: u64) -> usize
+    requires { ⌜ (n * 5 ≤ length (now words)) × (misses ≤ 4096) ⌝ }
 {
-    if near == 0 {
-        return 0;
+    if n <= at {
+        return at;
     }
-    if is_behind(words, near - 1, s) {
-        return near;
+    let here = words[at * 5 + 1];
+    if here <= misses {
+        return at + (misses - here) as usize;
     }
-    0
+    let back = (here - misses) as usize;
+    if back <= at {
+        return at - back;
+    }
+    at
 }
 
-// Puts `s` into the table of the first `n` states, where it often belongs to place `near` or behind it.
-pub(crate) fn put_near(words: &mut [u64], near: usize, n: usize, s: State) -> Reached
-    requires { ⌜ (near ≤ n) × (n * 5 + 5 ≤ length (now words)) × (rising (take n (tableOf (now words))) ≡ true) ⌝ }
-    ensures { λ r. ⌜ Inserted s n (r .states) (tableOf (now (words .entry))) (tableOf (now (words .exit))) × (r .at ≡ suc (placeOf s (take n (tableOf (now (words .entry)))))) ⌝ }
+// Puts `s` into the table of the first `n` states, where it often stands as far from place `at` as its misses are from those there; how many it then has, and its place.
+pub(crate) fn put_about(words: &mut [u64], at: usize, n: usize, s: State) -> Reached
+    requires { ⌜ (n * 5 + 5 ≤ length (now words)) × (s .misses ≤ 4096) × (rising (take n (tableOf (now words))) ≡ true) ⌝ }
+    ensures { λ r. ⌜ Inserted s n (r .states) (tableOf (now (words .entry))) (tableOf (now (words .exit))) × (r .at ≡ placeOf s (take n (tableOf (now (words .entry))))) ⌝ }
 {
-    let from = passed(words, near, n, s);
-    put_on(words, from, n, s)
+    let near = guess_about(words, at, n, s.misses);
+    if meets(words, n, near, s) {
+        let t = load(words, near);
+        store(words, near, plus(t, s));
+        return Reached {
+            states: n,
+            at: near,
+        };
+    }
+    let place = seek_on(words, 0, n, s);
+    let states = put_at(words, n, place, s);
+    Reached { states, at: place }
 }
 
 // The same as `put`; a state of 0 units vanishes.

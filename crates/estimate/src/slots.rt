@@ -1,9 +1,6 @@
 // The slots of the working room: a node's table, and no states behind it.
 use crate::memory::load;
-use crate::memory::store;
-use rules::Filled;
-use rules::State;
-use rules::Units;
+use words::clear;
 ghost use mathlib.Core.Path.{_≡_};
 ghost use Prim.Native.Nat.{_+_, _-_, _*_, _≤_};
 ghost use lib.ListN.{length, take, drop, replicate};
@@ -33,18 +30,7 @@ pub(crate) fn seal(work: &mut [u64], at: usize, n: usize)
     requires { ⌜ (n ≤ 64) × ((at + 64) * 5 ≤ length (now work)) ⌝ }
     ensures { λ _. ⌜ tableOf (now (work .exit)) ≡ paste (tableOf (now (work .entry))) (at + n) (replicate 64 noState) (64 - n) ⌝ }
 {
-    let mut i = n;
-    while i < 64 {
-        store(
-            work,
-            at + i,
-            State {
-                mask: 0,
-                misses: 0,
-                filled: Filled { front: 0, back: 0 },
-                units: Units(0),
-            },
-        );
-        i += 1;
-    }
+    let from = (at + n) * 5;
+    let to = (at + 64) * 5;
+    clear(&mut work[from..to]);
 }

@@ -13,10 +13,3 @@ pub(crate) struct Joined {
     pub aside: Units,
     pub fits: bool,
 }
-
-// The fewest units of the first `seen` states; those before place `from` have more.
-pub(crate) struct Least {
-    pub units: Units,
-    pub from: usize,
-    pub seen: usize,
-}

@@ -13,7 +13,7 @@ use Rattle.rules.specs.declared.Refusal.{Refusal}
 use Rattle.rules.specs.declared.Verdict.{Verdict}
 use Rattle.rules.specs.declared.Verdict.the-variants.{Accepted, Refused}
 use Rattle.rules.specs.Answers.{numberOf}
-use Rattle.listing.specs.Reading.{listingOf, listingIn}
+use Rattle.listing_form.specs.Reading.{listingOf, listingIn}
 use Rattle.listing.specs.Expansion.{Graph, graphOf, lengths, accesses, flat}
 use Rattle.listing.proofs.Sizes.{edges-by-nodes}
 use Rattle.listing.proofs.Edges.{node-count}

@@ -17,11 +17,11 @@ use Rattle.rules.specs.Input.{cache, inputOf}
 use Rattle.rules.specs.Shape.{Every}
 use Rattle.rules.proofs.Lists.{every-append, every-take, every-at, every-weaker}
 use Rattle.reading.specs.Reading.{allDigits, valueFrom, isNumber, wordsFrom, allNumbers, wellFormed, numbersIn}
-use Rattle.listing.specs.Listing.{Listing, tokens as tokensOf}
-use Rattle.listing.specs.Reading.{listingOf, listingIn}
+use Rattle.listing_form.specs.Listing.{Listing, tokens as tokensOf}
+use Rattle.listing_form.specs.Reading.{listingOf, listingIn}
 use Rattle.listing.specs.Expansion.{graphOf, lengths, accesses, flat}
 use Rattle.listing.specs.Call.{listingReasons}
-use Rattle.listing.proofs.Reading.{form}
+use Rattle.listing_form.proofs.Reading.{form}
 use Rattle.listing.proofs.Calls.{Checked, checked, is-listing}
 use Rattle.listing.proofs.Blocks.{accesses-listed, lengths-most, edges-most}
 use Rattle.curve_numbers.specs.Parts.{plain, Part, counted, trackedPart, runsPart, accessesPart, edgesPart, complete, inputFrom}

@@ -7,7 +7,7 @@ use lib.ListN.{length, getD, take}
 use Rattle.rules.specs.declared.Refusal.the-variants.{Text}
 use Rattle.rules.specs.declared.Verdict.{Verdict}
 use Rattle.rules.specs.Answers.{numberOf, first}
-use Rattle.listing.specs.Reading.{listingOf, listingIn}
+use Rattle.listing_form.specs.Reading.{listingOf, listingIn}
 use Rattle.listing.specs.Expansion.{Graph, graphOf, lengths, accesses, flat}
 use Rattle.listing.specs.Call.{listingReasons}
 use Rattle.curve_numbers.specs.Parts.{Part, counted, trackedPart}

@@ -7,9 +7,9 @@ use Rattle.basics.specs.Sums.{sumOver}
 use Rattle.rules.specs.Input.{Edge}
 use Rattle.rules.specs.Shape.{Every}
 use Rattle.rules.proofs.Lists.{every-append, every-weaker}
-use Rattle.listing.specs.Listing.{Listing, end, access, branch, loop, tokens}
+use Rattle.listing_form.specs.Listing.{Listing, end, access, branch, loop, tokens}
 use Rattle.listing.specs.Expansion.{Graph, nodeZero, openNode, accessed, opened, expanded, graphOf, lengths, accesses, flat}
-use Rattle.listing.specs.Counting.{nodesIn, accessesIn}
+use Rattle.listing_form.specs.Counting.{nodesIn, accessesIn}
 use Rattle.listing.proofs.Sizes.{opened-accesses, accessed-accesses, nodes-added}
 use Rattle.listing.proofs.Edges.{times-keeps, Ahead, good-start, good-expanded, lengths-sum}
 use Rattle.listing.proofs.Calls.{graph-accesses}

@@ -15,56 +15,22 @@ use Rattle.rules.specs.declared.Verdict.{Verdict}
 use Rattle.rules.specs.declared.Verdict.the-variants.{Accepted, Refused}
 use Rattle.rules.specs.Answers.{first, verdictSays}
 use Rattle.rules.proofs.Refusals.{numbered, none-applies}
-use Rattle.listing.specs.declared.counting.Size.{Size}
-use Rattle.listing.specs.declared.counting.Counted.{Counted}
-use Rattle.listing.specs.declared.counting.Counted.the-variants.{Found, Broken}
+use Rattle.listing_form.specs.declared.Size.{Size}
+use Rattle.listing_form.specs.declared.Counted.{Counted}
+use Rattle.listing_form.specs.declared.Counted.the-variants.{Found, Broken}
 use Rattle.listing.specs.declared.Expansion.{Expansion}
 use Rattle.listing.specs.declared.Expansion.the-variants.{Graph as GraphOf, Refused as RefusedExpansion}
-use Rattle.listing.specs.Listing.{Listing}
-use Rattle.listing.specs.Reading.{Reading, found, broken, sequenceIn, toTheEnd, listingOf, isBroken, listingIn}
+use Rattle.listing_form.specs.Listing.{Listing}
+use Rattle.listing_form.specs.Reading.{Reading, found, broken, sequenceIn, toTheEnd, listingOf, isBroken, listingIn}
 use Rattle.listing.specs.Expansion.{nodeZero, openNode, expanded, graphOf, runs, lengths, accesses, flat}
-use Rattle.listing.specs.Counting.{nodesIn, accessesIn, edgesIn, capped, sizeOf, countOf}
+use Rattle.listing_form.specs.Counting.{nodesIn, accessesIn, edgesIn, capped, sizeOf, countOf}
 use Rattle.listing.specs.Writing.{Rooms, written, sequenceAt, Room, Ready, Wrote}
 use Rattle.listing.specs.Call.{expansionSays, ExpandingLeft, listingReasons, expandingLeaves, afterExpanding}
-use Rattle.listing.proofs.Reading.{Holds, Said, in-said, said-short}
-use Rattle.listing.proofs.Counts.{unseen}
+use Rattle.listing_form.proofs.Reading.{Holds, Said, in-said, said-short}
+use Rattle.listing_form.proofs.Counts.{unseen}
 use Rattle.listing.proofs.Sizes.{nodes-added, accesses-added, edges-added, edges-by-nodes}
 use Rattle.listing.proofs.Edges.{node-count}
 use Rattle.listing.proofs.Shows.{Shows, follows, shows-start, flat-long}
-
--- ---- nothing may be left over
-
-module _ (ts : List ℕ) (c : Counted) (e : c ≡ countOf (length ts) (sequenceIn 8 ts)) where
-  pub listing-broken : c ≡ Broken → Broken ≡ countOf (length ts) (listingOf ts)
-  unfolding listingOf
-  listing-broken f = go (sequenceIn 8 ts) e
-    where
-      go : (r : Reading) → c ≡ countOf (length ts) r → Broken ≡ countOf (length ts) (toTheEnd r)
-      go broken h = refl
-      go (found s us) h = let z : _≡_ {A = ℕ} 0 1 = cc in absurd (omega arith)
-
-  module _ (z : Size) (f : c ≡ Found z) where
-    pub listing-whole : z .at ≡ length ts → Found z ≡ countOf (length ts) (listingOf ts)
-    unfolding listingOf
-    listing-whole g = go (sequenceIn 8 ts) e (in-said 8 ts)
-      where
-        go : (r : Reading) → c ≡ countOf (length ts) r → Holds (Said 8 ts) r → Found z ≡ countOf (length ts) (toTheEnd r)
-        go broken h p = sym f ∙ h
-        go (found s []) h p = sym f ∙ h
-        go (found s (u ∷ us)) h p =
-            let same : z ≡ sizeOf s (length ts - length (u ∷ us)) = cc in
-            absurd (omega (arith, ap (λ z. z .at) same, g, said-short 8 ts s (u ∷ us) p))
-
-    pub listing-more : (z .at ≡ length ts → ⊥) → Broken ≡ countOf (length ts) (listingOf ts)
-    unfolding listingOf
-    listing-more g = go (sequenceIn 8 ts) e
-      where
-        go : (r : Reading) → c ≡ countOf (length ts) r → Broken ≡ countOf (length ts) (toTheEnd r)
-        go broken h = refl
-        go (found s []) h =
-            let same : z ≡ sizeOf s (length ts - 0) = cc in
-            absurd (g (ap (λ z. z .at) same ∙ omega arith))
-        go (found s (u ∷ us)) h = refl
 
 -- ---- how large the graph is
 

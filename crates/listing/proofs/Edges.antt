@@ -18,7 +18,7 @@ use Rattle.rules.specs.Ordered.{Order, isBefore, byNumber, rises}
 use Rattle.rules.specs.Refusals.{inPairs, forward, edgeOrder, eachBelow, hasEdgeIn, edgesKept}
 use Rattle.rules.proofs.Lists.{every-append, every-weaker}
 use Rattle.rules.proofs.Ordered.{number-before}
-use Rattle.listing.specs.Listing.{Listing, end, access, branch, loop}
+use Rattle.listing_form.specs.Listing.{Listing, end, access, branch, loop}
 use Rattle.listing.specs.Expansion.{Graph, nodeZero, openNode, accessed, edgesTo, opened, times, expanded, graphOf, runs, lengths, accesses, flat}
 use Rattle.listing.proofs.Sizes.{opened-node, nodes-added}
 

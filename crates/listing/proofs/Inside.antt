@@ -12,12 +12,12 @@ use lib.Seq.{drop-cons}
 use borrow.Author.Tests.{eqb-true, ltb-true, ltb-false}
 use Rattle.basics.proofs.Bools.{not-left}
 use Rattle.rules.specs.Refusals.{outside}
-use Rattle.listing.specs.Listing.{Listing, end, access, branch, loop, followedBy}
-use Rattle.listing.specs.Reading.{Reading, found, broken, Kind, anAccess, aBranch, aLoop, nothing, kindOf, andThen, closed, item, onwards, sequenceIn, isBroken, listingIn, placeIn}
-use Rattle.listing.specs.Counting.{beginsItem, sizeOf}
+use Rattle.listing_form.specs.Listing.{Listing, end, access, branch, loop, followedBy}
+use Rattle.listing_form.specs.Reading.{Reading, found, broken, Kind, anAccess, aBranch, aLoop, nothing, kindOf, andThen, closed, item, onwards, sequenceIn, isBroken, listingIn, placeIn}
+use Rattle.listing_form.specs.Counting.{beginsItem, sizeOf}
 use Rattle.listing.specs.Writing.{sequenceAt, itemAt, branchAt, loopAt}
-use Rattle.listing.proofs.Reading.{Holds, Said, rest, in-said, sequence-end, sequence-next, reads, Stops, item-short}
-use Rattle.listing.proofs.Counts.{seen, item-here, said-here, begins-inside, loop-at}
+use Rattle.listing_form.proofs.Reading.{Holds, Said, rest, in-said, sequence-end, sequence-next, reads, Stops, item-short}
+use Rattle.listing_form.proofs.Counts.{seen, item-here, said-here, begins-inside, loop-at}
 
 -- ---- what was found was found step by step
 

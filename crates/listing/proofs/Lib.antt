@@ -8,10 +8,6 @@ pub mod Edges
 pub mod Reached
 -- Runs and paths give the same access sequences
 pub mod SameSequences
--- Reading finds a listing exactly where there is one
-pub mod Reading
--- The first pass
-pub mod Counts
 -- What is read at a place
 pub mod Inside
 -- What a sequence writes, and that there is room

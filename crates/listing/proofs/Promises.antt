@@ -27,13 +27,13 @@ use Rattle.rules.specs.Units.{whole}
 use Rattle.promises.specs.Ends.{revisionOf, over, overCycles}
 use Rattle.promises.specs.Paths.{isPath, accessesOf}
 use Rattle.promises.proofs.Promises.{safe, safe-cycles}
-use Rattle.listing.specs.Listing.{Listing}
-use Rattle.listing.specs.Reading.{found, listingOf, listingIn}
+use Rattle.listing_form.specs.Listing.{Listing}
+use Rattle.listing_form.specs.Reading.{found, listingOf, listingIn}
 use Rattle.listing.specs.Expansion.{graphOf, lengths, accesses, flat}
-use Rattle.listing.specs.Counting.{nodesIn}
+use Rattle.listing_form.specs.Counting.{nodesIn}
 use Rattle.listing.specs.Runs.{Makes}
 use Rattle.listing.specs.Call.{expansionSays, afterExpanding}
-use Rattle.listing.proofs.Reading.{Lists, form}
+use Rattle.listing_form.proofs.Reading.{Lists, form}
 use Rattle.listing.proofs.Edges.{edges-kept, lengths-sum, node-count}
 use Rattle.listing.proofs.SameSequences.{inputFor, same-sequences}
 use Rattle.listing.proofs.Calls.{checked, none-refused, graph-nodes, graph-accesses}

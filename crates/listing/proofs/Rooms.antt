@@ -4,10 +4,10 @@ use Prim.Native.Nat.{ℕ, zero, suc, _+_, _-_, _*_, _≤_, _<_}
 use native.Mathlib.Nat.{zero-mul, suc-mul, mul-le-mul-right}
 use native.Mathlib.Omega.{arith}
 use lib.ListN.{length, set, length-set}
-use Rattle.listing.specs.Listing.{Listing, end, access, branch, loop, followedBy}
+use Rattle.listing_form.specs.Listing.{Listing, end, access, branch, loop, followedBy}
 use Rattle.listing.specs.Expansion.{times}
-use Rattle.listing.specs.Counting.{nodesIn, accessesIn, edgesIn}
-use Rattle.listing.proofs.Counts.{join-nodes, join-accesses}
+use Rattle.listing_form.specs.Counting.{nodesIn, accessesIn, edgesIn}
+use Rattle.listing_form.proofs.Counts.{join-nodes, join-accesses}
 use Rattle.listing.specs.Writing.{Rooms, accessWritten, edgeWritten, nodeOpened, armOpened, joinOpened, written, Fits, Room}
 
 -- ---- one sequence behind another

@@ -18,7 +18,7 @@ use Rattle.rules.specs.Input.{Input, inputIn, nodes, offset, runOf, edgesOf, pr
 use Rattle.rules.proofs.Lists.{flat-snoc}
 use Rattle.promises.specs.Paths.{leads, isPath, accessesOf}
 use Rattle.promises.proofs.Paths.{linked-pred, leads-on, along-path}
-use Rattle.listing.specs.Listing.{Listing, end, access, branch, loop}
+use Rattle.listing_form.specs.Listing.{Listing, end, access, branch, loop}
 use Rattle.listing.specs.Expansion.{Graph, nodeZero, openNode, accessed, opened, times, expanded, graphOf, runs, lengths, accesses, flat}
 use Rattle.listing.specs.Runs.{Then, Rounds, Makes}
 use Rattle.listing.proofs.Sizes.{opened-node, accessed-node, nodes-added}

@@ -7,9 +7,9 @@ use native.Mathlib.Omega.{arith}
 use lib.ListN.{length, set, replicate, length-append, length-map}
 use lib.Seq.{set-at}
 use Rattle.rules.specs.Input.{Edge}
-use Rattle.listing.specs.Listing.{Listing, end, access, branch, loop}
+use Rattle.listing_form.specs.Listing.{Listing, end, access, branch, loop}
 use Rattle.listing.specs.Expansion.{Graph, nodeZero, openNode, accessed, opened, times, expanded, runs, lengths, accesses, flat}
-use Rattle.listing.specs.Counting.{nodesIn, accessesIn, edgesIn}
+use Rattle.listing_form.specs.Counting.{nodesIn, accessesIn, edgesIn}
 use Rattle.listing.specs.Call.{atFront}
 use Rattle.listing.specs.Writing.{Rooms, accessWritten, edgeWritten, nodeOpened, armOpened, joinOpened, written}
 use Rattle.listing.proofs.Sizes.{opened-node, opened-accesses, accessed-accesses, opened-edges, times-adds, nodes-added, accesses-added, edges-added}

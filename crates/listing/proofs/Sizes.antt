@@ -5,16 +5,10 @@ use Prim.Native.Nat.{ℕ, zero, suc, _+_, _*_}
 use native.Mathlib.Nat.{zero-mul, suc-mul}
 use native.Mathlib.Omega.{arith}
 use lib.ListN.{length, length-append}
-use Rattle.listing.specs.Listing.{Listing, end, access, branch, loop}
+use Rattle.basics.proofs.Lists.{flat-append}
+use Rattle.listing_form.specs.Listing.{Listing, end, access, branch, loop}
 use Rattle.listing.specs.Expansion.{Graph, openNode, accessed, edgesTo, opened, times, expanded, accesses}
-use Rattle.listing.specs.Counting.{nodesIn, accessesIn, edgesIn}
-
--- ---- lists put flat
-
-pub flat-append : {A B : Type 0} (f : A → List B) (xs ys : List A) → flatMap f (xs ++ ys) ≡ flatMap f xs ++ flatMap f ys
-unfolding flatMap
-flat-append f [] ys = refl
-flat-append f (x ∷ xs) ys = rw (flat-append f xs ys) (sym (append-assoc (f x) (flatMap f xs) (flatMap f ys)))
+use Rattle.listing_form.specs.Counting.{nodesIn, accessesIn, edgesIn}
 
 -- ---- n times what adds a fixed number adds n times that
 

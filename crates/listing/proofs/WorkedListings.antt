@@ -3,8 +3,8 @@ use mathlib.Core.Path.{_≡_, refl}
 use mathlib.Core.List.{List, [], _∷_, map, flatMap}
 use Prim.Native.Nat.{ℕ}
 use lib.ListN.{replicate}
-use Rattle.listing.specs.Listing.{followedBy}
-use Rattle.listing.specs.Reading.{Reading, found, broken, listingOf, sequenceIn, sequenceOf, item, kindOf}
+use Rattle.listing_form.specs.Listing.{followedBy}
+use Rattle.listing_form.specs.Reading.{Reading, found, broken, listingOf, sequenceIn, sequenceOf, item, kindOf}
 use Rattle.listing.specs.Expansion.{graphOf, expanded, opened, accessed, times, lengths, accesses, flat}
 
 -- tokens, and the graph that they say

@@ -8,12 +8,12 @@ use native.Mathlib.Omega.{arith}
 use lib.Dec.{eqb}
 use lib.ListN.{length, getD, drop, length-drop}
 use borrow.Author.Tests.{ne-eqb}
-use Rattle.listing.specs.Listing.{Listing, end, access, branch, loop, followedBy}
-use Rattle.listing.specs.Reading.{Reading, kindOf, item, sequenceIn, aLoop, nothing, isBroken, listingIn, placeIn}
+use Rattle.listing_form.specs.Listing.{Listing, end, access, branch, loop, followedBy}
+use Rattle.listing_form.specs.Reading.{Reading, kindOf, item, sequenceIn, aLoop, nothing, isBroken, listingIn, placeIn}
 use Rattle.listing.specs.Expansion.{times}
-use Rattle.listing.specs.Counting.{nodesIn, accessesIn, beginsItem}
+use Rattle.listing_form.specs.Counting.{nodesIn, accessesIn, beginsItem}
 use Rattle.listing.specs.Writing.{Rooms, accessWritten, armOpened, joinOpened, written, AccessFits, Fits, sequenceAt, itemAt, branchAt, loopAt, Room, Ready, ArmReady, RoundsReady, Wrote}
-use Rattle.listing.proofs.Counts.{stop-here}
+use Rattle.listing_form.proofs.Counts.{stop-here}
 use Rattle.listing.proofs.Inside.{Next, next-item, InAccess, in-access, endOf, InBranch, in-branch, InLoop, in-loop}
 use Rattle.listing.proofs.Rooms.{written-join, room-item, room-rest, fits-first, room-left, fits-second, room-right, fits-join, no-rounds, times-last, room-round, room-others, idle-rounds}
 

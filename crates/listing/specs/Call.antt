@@ -10,7 +10,7 @@ use Rattle.rules.specs.declared.Verdict.the-variants.{Accepted, Refused}
 use Rattle.rules.specs.Answers.{numberOf, Reason, when, first}
 use Rattle.listing.specs.declared.Expansion.{Expansion}
 use Rattle.listing.specs.declared.Expansion.the-variants.{Graph as GraphOf, Refused as RefusedExpansion}
-use Rattle.listing.specs.Reading.{Reading, listingOf, isBroken, listingIn}
+use Rattle.listing_form.specs.Reading.{Reading, listingOf, isBroken, listingIn}
 use Rattle.listing.specs.Expansion.{Graph, graphOf, runs, lengths, accesses, flat}
 
 -- what an answer says: 0, and how many nodes, accesses and edges there are; or the refusal's number and nothing else

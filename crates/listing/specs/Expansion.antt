@@ -3,7 +3,7 @@ use mathlib.Core.List.{List, [], _∷_, _++_, map, flatMap}
 use Prim.Native.Nat.{ℕ, zero, suc}
 use lib.ListN.{length}
 use Rattle.rules.specs.Input.{Edge}
-use Rattle.listing.specs.Listing.{Listing, end, access, branch, loop}
+use Rattle.listing_form.specs.Listing.{Listing, end, access, branch, loop}
 
 -- a graph under way: the runs of the nodes opened earlier, in their order, the open node's run, and the edges
 pub record Graph : Type 0 where

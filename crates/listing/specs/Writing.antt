@@ -4,11 +4,11 @@ use mathlib.Core.Bool.{false}
 use mathlib.Core.List.{List}
 use Prim.Native.Nat.{ℕ, _+_, _-_, _*_, _≤_, _<_}
 use lib.ListN.{length, getD, set, drop}
-use Rattle.listing.specs.declared.writing.Standing.{Standing}
-use Rattle.listing.specs.Listing.{Listing, end, access, branch, loop}
-use Rattle.listing.specs.Reading.{Reading, aBranch, aLoop, kindOf, item, sequenceIn, isBroken, listingIn, placeIn}
+use Rattle.listing.specs.declared.emitting.Standing.{Standing}
+use Rattle.listing_form.specs.Listing.{Listing, end, access, branch, loop}
+use Rattle.listing_form.specs.Reading.{Reading, aBranch, aLoop, kindOf, item, sequenceIn, isBroken, listingIn, placeIn}
 use Rattle.listing.specs.Expansion.{times}
-use Rattle.listing.specs.Counting.{nodesIn, accessesIn, edgesIn}
+use Rattle.listing_form.specs.Counting.{nodesIn, accessesIn, edgesIn}
 
 -- how many nodes, accesses and edges there are, how many accesses the open node has, and the three rooms
 pub record Rooms : Type 0 where

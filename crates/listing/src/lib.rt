@@ -1,19 +1,18 @@
 // Loops and branches as the compiler lists them, expanded into a graph: document 02, request 8/13.
-mod counting;
-mod writing;
+mod emitting;
 
-use crate::counting::Counted;
-use crate::counting::count_listing;
-use crate::writing::Standing;
-use crate::writing::write_sequence;
+use crate::emitting::Standing;
+use crate::emitting::write_sequence;
 use basics::clear_numbers;
+use listing_form::Counted;
+use listing_form::count_listing;
 use rules::Refusal;
 use rules::Verdict;
 ghost use mathlib.Core.Path.{_≡_};
 ghost use lib.ListN.{length};
 ghost use Rattle.rules.specs.declared.Verdict.the-variants.{Accepted};
 ghost use Rattle.rules.specs.Answers.{first};
-ghost use Rattle.listing.specs.Reading.{listingOf};
+ghost use Rattle.listing_form.specs.Reading.{listingOf};
 ghost use Rattle.listing.specs.Call.{listingReasons, afterExpanding};
 
 // How many nodes, accesses and edges the graph has; or a refusal.

@@ -18,7 +18,7 @@ ghost use Rattle.words.specs.Tables.{tableOf};
 mod answers;
 mod counts;
 mod cycles;
-mod states;
+mod one_state;
 mod sums;
 
 // The units above a budget: misses strictly greater.

@@ -1,5 +1,5 @@
 // What is asked of a table in words: the units above a budget, the smallest budget.
-use crate::states::part_above;
+use crate::one_state::part_above;
 use cycle_check::largest;
 use words::state_at;
 ghost use mathlib.Core.Path.{_≡_};

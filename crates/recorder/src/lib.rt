@@ -1,19 +1,19 @@
 // Runs on the trace recorder's disk: a trace is read, its damaged blocks are listed, a run of accesses is written. Document 02, request 7/13.
+use crate::damage::list_all;
+use crate::packing::write_all;
 use basics::clear_numbers;
 use blocks::first_damaged;
 use copying::copy_all;
-use listing::list_all;
 use rules::Refusal;
 use trace_blocks::clear_bytes;
 use words::clear;
-use writing::write_all;
 ghost use mathlib.Core.Path.{_≡_};
 ghost use Rattle.recorder.specs.Calls.{traceRead, traceListed, traceWritten};
 
 mod blocks;
 mod copying;
-mod listing;
-mod writing;
+mod damage;
+mod packing;
 
 // What reading answers: how many accesses the trace says, the place of its first damaged block, or a refusal.
 pub enum Reading {

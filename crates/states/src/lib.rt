@@ -11,7 +11,7 @@ ghost use Rattle.rules.specs.Fold.{meet as meetOf};
 ghost use Rattle.rules.specs.Table.{order, plus as plusOf};
 ghost use Rattle.tables.specs.Placing.{isSame};
 
-pub mod best;
+pub mod best_states;
 pub mod filled;
 pub mod step;
 

@@ -1,5 +1,5 @@
 // Whether the states in some words are a table: document 01, section 4, with the filled numbers of document 02, request 6/13.
-use crate::states::is_fitting;
+use crate::one_state::is_fitting;
 use orders::stands_before;
 use rules::Units;
 use words::state_at;
@@ -10,7 +10,7 @@ ghost use Rattle.rules.specs.Table.{rising as risingOf, total};
 ghost use Rattle.rules.specs.Questions.{allFitting, isTable};
 ghost use Rattle.words.specs.Tables.{tableOf};
 
-mod states;
+mod one_state;
 
 // Whether each state stands before the next.
 fn rising(words: &[u64]) -> bool

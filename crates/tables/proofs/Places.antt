@@ -5,15 +5,16 @@ use mathlib.Core.Logic.{_⊎_, inl, inr}
 use mathlib.Core.Bool.{Bool, true, false, cond, _||_, true≢false}
 use Prim.Native.Nat.{ℕ, zero, suc, _+_, _-_, _/_, _%_, _^_, _≤_, _<_}
 use lib.Pow.{shr-shr}
+use native.Mathlib.Nat.{div-eq-of-lt-le, pow-succ'}
 use native.Mathlib.Decide.{decLt}
 use native.Mathlib.Omega.{arith}
-use lib.Bits.{bitOr}
-use lib.Count.{trailingZeros, under}
-use lib.Dec.{eqb}
-use borrow.Author.Tests.{ne-eqb}
+use lib.Bits.{bitOr, or-lt}
+use lib.Count.{trailingZeros, under, leadingZeros, leading-top}
+use lib.Dec.{eqb, lit<}
+use borrow.Author.Tests.{ne-eqb, eq-eqb, eqb-true}
 use Rattle.rules.specs.Contents.{bit}
-use Rattle.rules.proofs.Bits.{bit-low, bit-rest, bit-or, bit-pow}
-use Rattle.tables.specs.Following.{firstHeld, nextHeld}
+use Rattle.rules.proofs.Bits.{bit-low, bit-rest, bit-or, bit-zero, bit-pow, bit-beyond}
+use Rattle.tables.specs.Following.{firstHeld, nextHeld, topHeld}
 
 -- ---- zeros below the lowest set digit
 
@@ -56,6 +57,17 @@ first-is C (suc n) e r low high none end = go (λ l. first-is C n (suc e) r l (o
 
 -- ---- the sixteen places, and a bit set behind them
 
+or-with : (a : Bool) {b c : Bool} → b ≡ c → (a || b) ≡ (a || c)
+or-with a e = ap (a ||_) e
+
+or-true : (a : Bool) → (a || true) ≡ true
+or-true true = refl
+or-true false = refl
+
+or-false : (a : Bool) → (a || false) ≡ a
+or-false true = refl
+or-false false = refl
+
 module _ (C e : ℕ) (l : e < 16) where
   abbrev D : ℕ
   D = bitOr C 65536
@@ -67,17 +79,6 @@ module _ (C e : ℕ) (l : e < 16) where
   shifted : (i : ℕ) → bit (D / 2 ^ e) i ≡ bit D (e + i)
   unfolding bit
   shifted i = ap (λ (n : ℕ). eqb (n % 2) 1) (shr-shr D e i)
-
-  or-with : (a : Bool) {b c : Bool} → b ≡ c → (a || b) ≡ (a || c)
-  or-with a e = ap (a ||_) e
-
-  or-true : (a : Bool) → (a || true) ≡ true
-  or-true true = refl
-  or-true false = refl
-
-  or-false : (a : Bool) → (a || false) ≡ a
-  or-false true = refl
-  or-false false = refl
 
   end-set : bit D 16 ≡ true
   end-set = bit-or 16 C 65536 ∙ or-with (bit C 16) (bit-pow 16 16) ∙ or-true (bit C 16)
@@ -129,3 +130,98 @@ next-on C e = first-within C (16 - e) e .0
 
 pub next-within : (C e : ℕ) → e ≤ 16 → nextHeld C e ≤ 16
 next-within C e l = omega (arith, first-within C (16 - e) e .1)
+
+-- ---- the highest place
+
+-- j is the highest of n places: it is held, and none above it is
+top-is : (n C j : ℕ) → j < n → bit C j ≡ true → ((i : ℕ) → j < i → i < n → bit C i ≡ false) → topHeld n C ≡ j
+unfolding topHeld
+top-is zero C j l held none = absurd (omega arith)
+top-is (suc n) C j l held none = go (decLt j n) (λ m. top-is n C j m held (λ i a b. none i a (omega arith)))
+  where
+    go : Dec (j < n) → (j < n → topHeld n C ≡ j) → cond (bit C n) n (topHeld n C) ≡ j
+    go (yes m) rest = rw (none n m (omega arith)) (rest m)
+    go (no m) rest = let same : j ≡ n = omega arith in rw (ap (bit C) (sym same) ∙ held) (sym same)
+
+top-none : (n C : ℕ) → ((i : ℕ) → i < n → bit C i ≡ false) → topHeld n C ≡ 0
+unfolding topHeld
+top-none zero C none = refl
+top-none (suc n) C none = rw (none n (omega arith)) (top-none n C (λ i l. none i (omega arith)))
+
+-- where a place is held, the highest is
+pub top-held : (n C i : ℕ) → i < n → bit C i ≡ true → (bit C (topHeld n C) ≡ true) × (topHeld n C < n)
+unfolding topHeld
+top-held zero C i l h = absurd (omega arith)
+top-held (suc n) C i l h = go (bit C n) refl (λ m. top-held n C i m h)
+  where
+    go : (b : Bool) → bit C n ≡ b → (i < n → (bit C (topHeld n C) ≡ true) × (topHeld n C < n)) → (bit C (cond b n (topHeld n C)) ≡ true) × (cond b n (topHeld n C) < suc n)
+    go true e rest = (e, omega arith)
+    go false e rest = low (decLt i n)
+      where
+        low : Dec (i < n) → (bit C (topHeld n C) ≡ true) × (topHeld n C < suc n)
+        low (yes m) = (rest m .0, omega (arith, rest m .1))
+        low (no m) = absurd (true≢false (sym h ∙ ap (bit C) (omega arith) ∙ e))
+
+pub top-below : (n C : ℕ) → topHeld (suc n) C ≤ n
+unfolding topHeld
+top-below zero C = go (bit C 0)
+  where
+    go : (b : Bool) → cond b 0 0 ≤ 0
+    go true = omega arith
+    go false = omega arith
+top-below (suc n) C = go (bit C (suc n)) (top-below n C)
+  where
+    go : (b : Bool) → topHeld (suc n) C ≤ n → cond b (suc n) (topHeld (suc n) C) ≤ suc n
+    go true h = omega arith
+    go false h = omega arith
+
+-- found by counting zeros: one more bit, the lowest, leaves the highest where it is, or is it
+module _ (C : ℕ) (fits : C < 2 ^ 64) where
+  abbrev A : ℕ
+  A = bitOr C 1
+
+  abbrev leading : ℕ
+  leading = leadingZeros 64 A
+
+  lowest : bit A 0 ≡ true
+  lowest = bit-or 0 C 1 ∙ or-with (bit C 0) (bit-pow 0 0) ∙ or-true (bit C 0)
+
+  some : 0 < A
+  some = go (decLt 0 A)
+    where
+      go : Dec (0 < A) → 0 < A
+      go (yes l) = l
+      go (no n) = let none : A ≡ 0 = omega arith in absurd (true≢false (sym lowest ∙ ap (λ (a : ℕ). bit a 0) none ∙ bit-zero 0))
+
+  abbrev found : (j : ℕ) × (leading + suc j ≡ 64) × (2 ^ j ≤ A) × (A < 2 ^ suc j)
+  found = leading-top 64 A some (or-lt 64 C 1 fits (lit< tt))
+
+  pub leading-few : leading ≤ 63
+  leading-few = omega (arith, found .1)
+
+  -- the digit found is set in A
+  set-there : bit A (found .0) ≡ true
+  unfolding bit
+  set-there = eq-eqb (A / 2 ^ found .0 % 2) 1 (ap (_% 2) (div-eq-of-lt-le {k = 1} (2 ^ found .0) (omega (arith, found .2)) (omega (arith, found .3, pow-succ' 2 (found .0)))))
+
+  above : (i : ℕ) → found .0 < i → bit C i ≡ false
+  above i l = go (bit C i) (sym (bit-or i C 1) ∙ bit-beyond (suc (found .0)) A i (found .3) l)
+    where
+      go : (b : Bool) → (b || bit 1 i) ≡ false → b ≡ false
+      go true e = absurd (true≢false e)
+      go false e = refl
+
+  pub top-found : 63 - leading ≡ topHeld 64 C
+  top-found = omega (arith, found .1) ∙ sym (go (bit C (found .0)) refl)
+    where
+      go : (b : Bool) → bit C (found .0) ≡ b → topHeld 64 C ≡ found .0
+      go true e = top-is 64 C (found .0) (omega (arith, found .1)) e (λ i l m. above i l)
+      go false e = top-none 64 C none ∙ sym first
+        where
+          -- then it is the bit that was set
+          first : found .0 ≡ 0
+          first = sym (eqb-true 0 (found .0) (sym (bit-pow 0 (found .0)) ∙ sym (ap (_|| bit 1 (found .0)) e) ∙ sym (bit-or (found .0) C 1) ∙ set-there))
+
+          none : (i : ℕ) → i < 64 → bit C i ≡ false
+          none zero l = ap (bit C) (sym first) ∙ e
+          none (suc i) l = above (suc i) (omega (arith, first))

@@ -16,3 +16,8 @@ firstHeld C (suc n) e = cond (bit C e) e (firstHeld C n (suc e))
 -- the first of the sixteen places, from place e on, whose block is one of C; otherwise 16, or e where that is more
 abbrev pub nextHeld : ℕ → ℕ → ℕ
 nextHeld C e = firstHeld C (16 - e) e
+
+-- the highest of the first n places whose block is one of C; 0 where there is none
+unfoldable pub topHeld : ℕ → ℕ → ℕ
+topHeld zero C = 0
+topHeld (suc n) C = cond (bit C n) n (topHeld n C)

@@ -15,7 +15,7 @@ ghost use Rattle.rules.specs.Contents.{among, bit, find, has, isLast, size, wit
 ghost use Rattle.rules.specs.Refusals.{setCounts};
 ghost use Rattle.tables.specs.Aim.{inWord, aimedAt};
 ghost use Rattle.tables.specs.Edges.{nextEdge};
-ghost use Rattle.tables.specs.Following.{nextHeld};
+ghost use Rattle.tables.specs.Following.{nextHeld, topHeld};
 
 // Whether the block at place `at` is held; a mask has 64 places.
 pub fn has_place(mask: u64, at: usize) -> bool
@@ -46,6 +46,13 @@ pub fn next_place(mask: u64, at: usize) -> usize
         return at;
     }
     at + u64::trailing_zeros((mask | 65536) >> at) as usize
+}
+
+// The highest of the 64 places of a mask whose block is held; 0 where there is none.
+pub fn highest_place(mask: u64) -> usize
+    ensures { λ r. ⌜ r ≡ topHeld 64 mask ⌝ }
+{
+    63 - u64::leading_zeros(mask | 1) as usize
 }
 
 // How many blocks are held.

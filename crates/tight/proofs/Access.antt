@@ -28,10 +28,11 @@ use Rattle.rules.proofs.Table.{total-add}
 use Rattle.tight_rules.specs.Rows.{move, narrow, narrowed}
 use Rattle.tight_rules.specs.Run.{stepped}
 use Rattle.plan.specs.Plan.{relabelled}
-use Rattle.tight.specs.Access.{if, risk, evicts, lostTo, missTo, goesTo, restTo, further, sends, arrives}
-use Rattle.tight.specs.Grid.{Grid, stateOf, tableOf, rowsOf}
-use Rattle.tight.proofs.Cells.{Test, unitsWhere, isCell, cell, where-append, where-add, where-moved, move-total}
-use Rattle.tight.proofs.Grids.{sum-grid, sum-one, sum-none}
+use Rattle.tight.specs.Access.{risk, evicts, lostTo, missTo, goesTo, restTo, further, sends, arrives}
+use Rattle.tight_rows.specs.Rows.{if}
+use Rattle.tight_rows.specs.Grid.{Grid, stateOf, tableOf, rowsOf}
+use Rattle.tight_rows.proofs.Cells.{Test, unitsWhere, isCell, cell, where-append, where-add, where-moved, move-total}
+use Rattle.tight_rows.proofs.Grids.{sum-grid, sum-one, sum-none}
 
 -- contents that are meant, with m misses
 abbrev pub landing : (ℕ → Bool) → ℕ → Test

@@ -16,23 +16,23 @@ use Rattle.rules.specs.Contents.{places, hits, with, shared}
 use Rattle.rules.specs.Filling.{fillOne}
 use Rattle.rules.specs.Shape.{Aimed}
 use Rattle.plan.specs.Plan.{unitsAt}
-use Rattle.tight.specs.declared.Opening.{Opening}
+use Rattle.tight_rows.specs.declared.Opening.{Opening}
 use Rattle.tight.specs.declared.Sender.{Sender}
 use Rattle.tight.specs.declared.SetAside.{SetAside}
-use Rattle.tight.specs.Room.{wordsOf, countAt, baseAt, widthAt, lostAt, maskAt, frontAt, backAt, cellAt, slotWords}
-use Rattle.tight.specs.Access.{if, comesTo, goesTo, further}
+use Rattle.tight_rows.specs.Room.{wordsOf, countAt, baseAt, widthAt, lostAt, maskAt, frontAt, backAt, cellAt, slotWords}
+use Rattle.tight.specs.Access.{goesTo, further}
+use Rattle.tight_rows.specs.Rows.{if, comesTo}
 use Rattle.tight.specs.Accessed.{loses, leftIn, leftInAll, hitIn, missIn, sumFor, cellFor, brings, senderOf, openingOf, Laid, Sendable, Accessed, Holding, Advanced}
-use Rattle.tight.specs.Ended.{Endable, RowsEnded}
-use Rattle.tight.specs.Grid.{Grid, gridOf}
+use Rattle.tight_ends.specs.Ended.{Endable, RowsEnded}
+use Rattle.tight_rows.specs.Grid.{Grid, gridOf, filledWords}
 use Rattle.tight.specs.Passing.{receiverOf, RowsPrepared, Planned, Delivering, Delivered}
 use Rattle.tight.specs.Sending.{Receiving, Movings}
-use Rattle.tight.specs.Settling.{filledWords}
-use Rattle.tight.specs.Stage.{Groups, stageAt, groupsOf, Staged}
-use Rattle.tight.proofs.Grids.{sum-none}
-use Rattle.tight.proofs.RowsKept.{row-before}
+use Rattle.tight_ends.specs.Stage.{Groups, stageAt, groupsOf, Staged}
+use Rattle.tight_rows.proofs.Grids.{sum-none}
+use Rattle.tight_rows.proofs.Writing.{row-before}
 use Rattle.tight.proofs.RowsMoved.{moved-beside}
 use Rattle.tight.proofs.Delivered.{may-move}
-use Rattle.tight.proofs.Settled.{row-most, columns-total}
+use Rattle.tight_ends.proofs.Settled.{row-most, columns-total}
 use Rattle.tight.proofs.SumsMeant.{rest-meant}
 use Rattle.tight.proofs.Holds.{column-most, base-most}
 use Rattle.tight.proofs.RowsReady.{rows-ready, slot-kept, stage-kept, chosen-before}

@@ -33,16 +33,17 @@ use Rattle.tight_rules.proofs.Runs.{after-fit}
 use Rattle.tight_rules.proofs.Limits.{access-few}
 use Rattle.plan.specs.Plan.{Plan, relabelled, unitsAt, endOf, some as someUnits, presentIn, planned}
 use Rattle.plan.proofs.Reduced.{Tabled, Reduces, plan-reduces}
-use Rattle.tight.specs.Access.{if, comesTo, further}
+use Rattle.tight.specs.Access.{further}
+use Rattle.tight_rows.specs.Rows.{if, comesTo}
 use Rattle.tight.specs.Accessed.{hitIn, missIn, sumFor, Accessed, Holding}
-use Rattle.tight.specs.Grid.{Grid, tableOf, rowsOf}
-use Rattle.tight.specs.Numbers.{some as someOf, rankOf}
-use Rattle.tight.specs.Stage.{Groups, Placed, Staged}
-use Rattle.tight.proofs.Cells.{Test, passes, unitsWhere, isCell, cell, where-alike, where-moved, move-rising, move-some, units-in-where}
-use Rattle.tight.proofs.Columns.{column}
-use Rattle.tight.proofs.Grids.{every-cell}
+use Rattle.tight_rows.specs.Grid.{Grid, tableOf, rowsOf}
+use Rattle.tight_rows.specs.Numbers.{some as someOf, rankOf}
+use Rattle.tight_ends.specs.Stage.{Groups, Placed, Staged}
+use Rattle.tight_rows.proofs.Cells.{Test, passes, unitsWhere, isCell, cell, where-alike, where-moved, move-rising, move-some, units-in-where}
+use Rattle.tight_ends.proofs.Columns.{column}
+use Rattle.tight_rows.proofs.Grids.{every-cell}
 use Rattle.tight.proofs.Access.{landing, if-zero, same-number, after-full, grid-after}
-use Rattle.tight.proofs.Settled.{every-both}
+use Rattle.tight_ends.proofs.Settled.{every-both}
 use Rattle.tight.proofs.Sent.{missesAfter, filledAfter, follow-each, cell-sent, units-sent, column-sent}
 
 -- ---- states that move

@@ -22,12 +22,12 @@ use Rattle.tight_rules.proofs.Moves.{Fit}
 use Rattle.tight_rules.proofs.Few.{good-none}
 use Rattle.tight_rules.proofs.Runs.{settles}
 use Rattle.plan.specs.Plan.{unitsAt}
-use Rattle.tight.specs.Access.{comesTo}
+use Rattle.tight_rows.specs.Rows.{comesTo}
 use Rattle.tight.specs.Accessed.{leftInAll, sumFor, Accessed, Holding, Advanced, Ran}
-use Rattle.tight.specs.Ended.{RowsEnded}
-use Rattle.tight.specs.Grid.{Grid, gridOf, rowsOf}
-use Rattle.tight.specs.Room.{wordsOf}
-use Rattle.tight.specs.Stage.{groupsOf}
+use Rattle.tight_ends.specs.Ended.{RowsEnded}
+use Rattle.tight_rows.specs.Grid.{Grid, gridOf, rowsOf}
+use Rattle.tight_rows.specs.Room.{wordsOf}
+use Rattle.tight_ends.specs.Stage.{groupsOf}
 use Rattle.tight.proofs.Accessed.{plan, sums, ends as endsOf, fit-from, reduces, reducedRows, staged}
 use Rattle.tight.proofs.Sent.{left-sent}
 

@@ -12,11 +12,11 @@ use Rattle.basics.proofs.Sums.{sumTo, sum-eq}
 use Rattle.rules.specs.declared.Filled.{Filled}
 use Rattle.rules.specs.declared.Target.{Target}
 use Rattle.rules.specs.Filling.{filledAt}
-use Rattle.tight.specs.Room.{Words, wordsOf}
-use Rattle.tight.specs.Rows.{rowSum}
-use Rattle.tight.specs.Access.{evicts, if}
+use Rattle.tight_rows.specs.Room.{Words, wordsOf}
+use Rattle.tight_rows.specs.Rows.{rowSum, if}
+use Rattle.tight.specs.Access.{evicts}
 use Rattle.tight.specs.Selecting.{ones, chosen, losesAt, Selectable, Selects}
-use Rattle.tight.proofs.Writing.{Written, as-before, one-more, written-at}
+use Rattle.tight_rows.proofs.Writing.{Written, as-before, one-more, written-at}
 
 -- ---- one cell
 

@@ -16,17 +16,17 @@ use Rattle.rules.specs.Units.{whole}
 use Rattle.tight.specs.declared.Route.{Route}
 use Rattle.tight.specs.declared.Sender.{Sender}
 use Rattle.tight.specs.declared.Receiver.{Receiver}
-use Rattle.tight.specs.Room.{Words}
-use Rattle.tight.specs.Rows.{within, selected}
+use Rattle.tight_rows.specs.Room.{Words}
+use Rattle.tight_rows.specs.Rows.{within, selected, if}
 use Rattle.tight.specs.Splitting.{canLose}
 use Rattle.tight.specs.Moving.{comes, endOf, missComes, rowComes}
 use Rattle.tight.specs.Sending.{startAt, routeAt, restRoute, comesFrom, restComes}
-use Rattle.tight.specs.Access.{if, risk, lostTo, missTo, goesTo, further}
+use Rattle.tight.specs.Access.{risk, lostTo, missTo, goesTo, further}
 use Rattle.tight.specs.Accessed.{loses, leftIn, brings, cellFor, Sendable}
-use Rattle.tight.specs.Grid.{Grid}
+use Rattle.tight_rows.specs.Grid.{Grid}
 use Rattle.tight.proofs.Access.{sum-zero}
 use Rattle.tight.proofs.Moving.{comes-cell}
-use Rattle.tight.proofs.Writing.{is-within, not-within}
+use Rattle.tight_rows.proofs.Writing.{is-within, not-within}
 use Rattle.tight.proofs.SumsMeant.{lose-cell, keep-cell, all-cell, rest-part}
 
 -- ---- a row that comes, cell by cell

@@ -21,17 +21,15 @@ use Rattle.rules.specs.Shape.{Listed}
 use Rattle.states.specs.Step.{inReach, fullerIn}
 use Rattle.states.proofs.Steps.{fuller-so}
 use Rattle.tight.specs.declared.Sender.{Sender}
-use Rattle.tight.specs.Room.{wordsOf, Leaves}
-use Rattle.tight.specs.Rows.{replaced, selected, withRow, Addable}
-use Rattle.tight.specs.Access.{if}
+use Rattle.tight_rows.specs.Room.{wordsOf, Leaves}
+use Rattle.tight_rows.specs.Rows.{replaced, selected, withRow, Addable, if}
 use Rattle.tight.specs.Sending.{startAt, maskIn}
-use Rattle.tight.specs.Settling.{filledWords}
-use Rattle.tight.specs.Stage.{stageAt}
+use Rattle.tight_rows.specs.Grid.{filledWords}
+use Rattle.tight_ends.specs.Stage.{stageAt}
 use Rattle.tight.specs.Grouping.{missedAt, hitOf, missOf, columnOf, Counting, ColumnFits, Aside, RowCounted, CountedTo, UnitsStaged, groupPut, Grouping, Grouped, HeaderSent}
-use Rattle.tight.proofs.Writing.{as-before, written-at, four-long, four-beside, four-first, four-second, four-third, four-fourth}
-use Rattle.tight.proofs.Adding.{sum-part}
+use Rattle.tight_rows.proofs.Writing.{as-before, written-at, four-long, four-beside, four-first, four-second, four-third, four-fourth, row-before}
+use Rattle.tight_rows.proofs.Adding.{sum-part}
 use Rattle.tight.proofs.CellsChosen.{chosen-part}
-use Rattle.tight.proofs.RowsKept.{row-before}
 
 -- ---- one row
 

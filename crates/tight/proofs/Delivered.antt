@@ -12,17 +12,17 @@ use lib.ListN.{length}
 use borrow.Author.Tests.{ltb-true, ltb-false}
 use Rattle.basics.proofs.Sums.{sumTo, sum-eq}
 use Rattle.rules.specs.declared.Target.{Target}
-use Rattle.tight.specs.declared.Opening.{Opening}
+use Rattle.tight_rows.specs.declared.Opening.{Opening}
 use Rattle.tight.specs.declared.Receiver.{Receiver}
 use Rattle.tight.specs.declared.Sender.{Sender}
-use Rattle.tight.specs.Room.{wordsOf, Leaves, widthAt, slotWords}
+use Rattle.tight_rows.specs.Room.{wordsOf, Leaves, widthAt, slotWords}
 use Rattle.tight.specs.Moving.{plus}
-use Rattle.tight.specs.Numbers.{Opened}
+use Rattle.tight_rows.specs.Numbers.{Openable, Opened}
 use Rattle.tight.specs.Sending.{startAt, comesFrom, restComes, Clear, Receiving, Movings}
 use Rattle.tight.specs.Grouping.{Grouping, Grouped, HeaderSent}
 use Rattle.tight.specs.Passing.{receiverOf, Delivering, Delivered}
-use Rattle.tight.proofs.MasksNumbered.{number-there}
-use Rattle.tight.proofs.RowsKept.{row-before}
+use Rattle.tight_rows.proofs.MasksNumbered.{number-there}
+use Rattle.tight_rows.proofs.Writing.{row-before}
 use Rattle.tight.proofs.RowsMoved.{moved-beside}
 
 module _ (N : ℕ) (x : Target) (L : ℕ) (s : Sender) (o : Opening) (a e : ℕ) (xs : List ℕ) (ok : Delivering N x L s o a e xs) where
@@ -31,6 +31,9 @@ module _ (N : ℕ) (x : Target) (L : ℕ) (s : Sender) (o : Opening) (a e : ℕ)
 
   pub from-fits : a + slotWords (o .contents) (o .cells) ≤ length xs
   from-fits = omega (arith, ok .from, ok .there .sums, ok .there .goes, ok .there .end)
+
+  pub may-open : Openable o xs
+  may-open = record { placed = ok .there; few = ok .fewRows }
 
   module _ (r : ℕ) (ys : List ℕ) (opens : Opened o r xs ys) where
     rows-within : r * o .cells ≤ o .contents * o .cells

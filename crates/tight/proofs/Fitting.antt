@@ -17,13 +17,14 @@ use Rattle.rules.specs.Shape.{Aimed, Listed}
 use Rattle.rules.proofs.Contents.{sixteen-places}
 use Rattle.tight_rules.specs.Run.{alive}
 use Rattle.tight.specs.declared.Sender.{Sender}
-use Rattle.tight.specs.Room.{Words, wordsOf, widthAt}
-use Rattle.tight.specs.Numbers.{sumIn}
+use Rattle.tight_rows.specs.Room.{Words, wordsOf, widthAt}
+use Rattle.tight_rows.specs.Numbers.{sumIn}
 use Rattle.tight.specs.Splitting.{canLose}
 use Rattle.tight.specs.Sending.{startAt, partIn, restIn, mostFrom, Totalling, Totalled}
-use Rattle.tight.specs.Access.{if, risk}
+use Rattle.tight.specs.Access.{risk}
+use Rattle.tight_rows.specs.Rows.{if}
 use Rattle.tight.specs.Accessed.{loses, leftIn, leftInAll, senderOf, openingOf, Laid, Sendable, Holding}
-use Rattle.tight.specs.Grid.{Grid}
+use Rattle.tight_rows.specs.Grid.{Grid}
 use Rattle.tight.specs.Passing.{PlanReduced, Delivering}
 use Rattle.tight.proofs.Sent.{sum-turned}
 use Rattle.tight.proofs.SumsMeant.{word-most, rest-meant}

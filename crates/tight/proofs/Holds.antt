@@ -20,12 +20,12 @@ use Rattle.rules.specs.Shape.{Every, Aimed, Shaped}
 use Rattle.rules.proofs.Lists.{every-weaker}
 use Rattle.tight.specs.Access.{risk}
 use Rattle.tight.specs.Accessed.{Holding}
-use Rattle.tight.specs.Grid.{Grid, tableOf}
-use Rattle.tight.proofs.Adding.{sum-term}
-use Rattle.tight.proofs.Cells.{total-where}
-use Rattle.tight.proofs.Columns.{where-none}
-use Rattle.tight.proofs.Grids.{where-grid, every-cell}
-use Rattle.tight.proofs.Settled.{every-both, sum-zero}
+use Rattle.tight_rows.specs.Grid.{Grid, tableOf}
+use Rattle.tight_rows.proofs.Adding.{sum-term}
+use Rattle.tight_rows.proofs.Cells.{total-where}
+use Rattle.tight_ends.proofs.Columns.{where-none}
+use Rattle.tight_rows.proofs.Grids.{where-grid, every-cell}
+use Rattle.tight_ends.proofs.Settled.{every-both, sum-zero}
 
 -- what is so of every state of a table that has units
 any-state : (P : Type 0) (T : List State) → 1 ≤ total T → Every (λ s. P) T → P

@@ -16,13 +16,13 @@ use Rattle.basics.proofs.Sums.{sum-eq}
 use Rattle.rules.specs.declared.Target.{Target}
 use Rattle.rules.specs.Contents.{hits, bit, with, without, shared, held, size}
 use Rattle.tight.specs.declared.Route.{Route}
-use Rattle.tight.specs.Room.{Words, wordsOf, Leaves}
-use Rattle.tight.specs.Rows.{Apart, replaced, selected, withRow, Addable, within}
-use Rattle.tight.specs.Access.{if, risk}
+use Rattle.tight_rows.specs.Room.{Words, wordsOf, Leaves}
+use Rattle.tight_rows.specs.Rows.{Apart, replaced, selected, withRow, Addable, within, if}
+use Rattle.tight.specs.Access.{risk}
 use Rattle.tight.specs.Moving.{plus, startOf, comes, Beside, rowUnits, Movable, choosing, endOf, missComes, rowComes}
-use Rattle.tight.proofs.Writing.{not-within, within-cases, is-within}
-use Rattle.tight.proofs.Adding.{sum-term}
-use Rattle.tight.proofs.Raising.{live-most, lostBelow, lost-more, lost-nothing-yet, lost-everywhere, lost-most}
+use Rattle.tight_rows.proofs.Writing.{not-within, within-cases, is-within}
+use Rattle.tight_rows.proofs.Adding.{sum-term}
+use Rattle.tight_rows.proofs.Raising.{live-most, lostBelow, lost-more, lost-nothing-yet, lost-everywhere, lost-most}
 
 -- what is chosen of a word is no more than the row has
 part-few : (r : Route) (w : Words) (j : ℕ) → j < r .width → selected w (r .from + j) (r .select + j) ≤ rowUnits r w

@@ -20,15 +20,14 @@ use Rattle.tight_rules.specs.Run.{alive}
 use Rattle.tight.specs.declared.Sender.{Sender}
 use Rattle.tight.specs.declared.Shares.{Shares}
 use Rattle.tight.specs.declared.SetAside.{SetAside}
-use Rattle.tight.specs.Room.{wordsOf, Leaves}
-use Rattle.tight.specs.Rows.{replaced}
+use Rattle.tight_rows.specs.Room.{wordsOf, Leaves}
+use Rattle.tight_rows.specs.Rows.{replaced}
 use Rattle.tight.specs.Selecting.{Selectable, Selects}
 use Rattle.tight.specs.Splitting.{Shareable, Shared}
 use Rattle.tight.specs.Sending.{startAt, Totalled}
 use Rattle.tight.specs.Grouping.{columnOf, Counting, UnitsStaged}
 use Rattle.tight.specs.Passing.{sharesOf, Preparing, RowsPrepared, partOf, PlanReduced, Planned}
-use Rattle.tight.proofs.Writing.{written-at}
-use Rattle.tight.proofs.RowsKept.{row-before}
+use Rattle.tight_rows.proofs.Writing.{written-at, row-before}
 
 module _ (N : ℕ) (x : Target) (s : Sender) (fronts backs e W : ℕ) (xs : List ℕ) (ok : Preparing N x s fronts backs e W xs) where
   pub may-select : Selectable x fronts backs (s .lose) (s .keep) (s .all) (s .width) xs
@@ -66,7 +65,7 @@ module _ (N : ℕ) (x : Target) (s : Sender) (fronts backs e W : ℕ) (xs : List
         (λ k h. unchosen (startAt s k + j) (omega (arith, row-before (s .length) k (s .count) h, ok .rows, ok .wide)))) (ok .columns j l)
 
     module _ (us : List ℕ) (stages : UnitsStaged W e x s cs us) where
-      pub rest-there : s .rest + s .width ≤ length us
+      rest-there : s .rest + s .width ≤ length us
       rest-there = omega (arith, stages .long, selects .long, ok .rest, ok .inside, ok .narrow)
 
       module _ (vs : List ℕ) (clears : Leaves (λ w. replaced (s .rest) (s .width) (λ j. 0) w) us vs) where

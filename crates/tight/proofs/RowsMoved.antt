@@ -18,15 +18,15 @@ use Rattle.rules.specs.Shape.{Listed}
 use Rattle.tight.specs.declared.Route.{Route}
 use Rattle.tight.specs.declared.Sender.{Sender}
 use Rattle.tight.specs.declared.Receiver.{Receiver}
-use Rattle.tight.specs.Room.{Words, wordsOf, Leaves}
+use Rattle.tight_rows.specs.Room.{Words, wordsOf, Leaves}
 use Rattle.tight.specs.Access.{risk}
 use Rattle.tight.specs.Moving.{plus, comes, rowUnits, Movable, choosing, endOf, missComes, rowComes}
 use Rattle.tight.specs.Sending.{startAt, maskIn, routeAt, restRoute, comesFrom, restComes, rowIn, Clear, Receiving, Fits, RowMovable, Movings}
 use Rattle.tight.proofs.Access.{sum-zero}
-use Rattle.tight.proofs.Grids.{sum-none}
-use Rattle.tight.proofs.Adding.{sum-part, sum-term}
-use Rattle.tight.proofs.Raising.{live-most, lost-everywhere, lost-most}
-use Rattle.tight.proofs.RowsKept.{row-before}
+use Rattle.tight_rows.proofs.Grids.{sum-none}
+use Rattle.tight_rows.proofs.Adding.{sum-part, sum-term}
+use Rattle.tight_rows.proofs.Raising.{live-most, lost-everywhere, lost-most}
+use Rattle.tight_rows.proofs.Writing.{row-before}
 use Rattle.tight.proofs.Moving.{comes-quiet, comes-most, same-comes, plus-then, plus-none, plus-same}
 
 -- ---- one row, whatever its contents

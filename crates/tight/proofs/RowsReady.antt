@@ -12,17 +12,15 @@ use lib.ListN.{length}
 use Rattle.basics.proofs.Sums.{sum-eq}
 use Rattle.rules.specs.declared.Target.{Target}
 use Rattle.tight.specs.declared.Sender.{Sender}
-use Rattle.tight.specs.Room.{wordsOf, Leaves, maskAt, unitsAt, cellAt, slotWords}
-use Rattle.tight.specs.Rows.{replaced, partAt, leftAt}
+use Rattle.tight_rows.specs.Room.{wordsOf, Leaves, maskAt, unitsAt, cellAt, slotWords}
+use Rattle.tight_rows.specs.Rows.{replaced, partAt, leftAt, if}
 use Rattle.tight.specs.Selecting.{chosen, Selects}
 use Rattle.tight.specs.Splitting.{canLose, Shared}
 use Rattle.tight.specs.Grouping.{UnitsStaged}
-use Rattle.tight.specs.Access.{if}
 use Rattle.tight.specs.Accessed.{loses, leftIn, senderOf, Sendable}
-use Rattle.tight.specs.Grid.{Grid, gridOf}
+use Rattle.tight_rows.specs.Grid.{Grid, gridOf}
 use Rattle.tight.specs.Passing.{sharesOf}
-use Rattle.tight.proofs.RowsKept.{row-before}
-use Rattle.tight.proofs.Writing.{is-within, not-within}
+use Rattle.tight_rows.proofs.Writing.{is-within, not-within, row-before}
 
 module _ (N : ℕ) (x : Target) (K W a e : ℕ) (xs : List ℕ) where
   -- the grid of before, and what is sent of it

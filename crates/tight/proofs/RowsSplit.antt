@@ -15,12 +15,11 @@ use Rattle.basics.proofs.Sums.{sumTo, sum-le, sum-const}
 use Rattle.rules.specs.declared.Target.{Target}
 use Rattle.rules.specs.Contents.{hits}
 use Rattle.tight.specs.declared.Shares.{Shares}
-use Rattle.tight.specs.Room.{wordsOf, Leaves}
-use Rattle.tight.specs.Rows.{partAt, leftAt, splitTo, Splittable}
-use Rattle.tight.specs.Access.{if, risk}
+use Rattle.tight_rows.specs.Room.{wordsOf, Leaves}
+use Rattle.tight_rows.specs.Rows.{partAt, leftAt, splitTo, Splittable, if}
+use Rattle.tight.specs.Access.{risk}
 use Rattle.tight.specs.Splitting.{canLose, splitIf, Shareable, shareAt, isSplit, leftOf, Shared}
-use Rattle.tight.proofs.Writing.{is-within, not-within}
-use Rattle.tight.proofs.RowsKept.{row-before}
+use Rattle.tight_rows.proofs.Writing.{is-within, not-within, row-before}
 
 module _ (x : Target) (C : ℕ) where
   pub hit-keeps : hits x C ≡ true → false ≡ canLose x C

@@ -16,17 +16,16 @@ use Rattle.basics.proofs.Sums.{sumTo, sum-eq, sum-le, part-most}
 use Rattle.rules.specs.declared.Target.{Target}
 use Rattle.rules.specs.Contents.{hits, with, without, shared, held, size}
 use Rattle.tight.specs.declared.Sender.{Sender}
-use Rattle.tight.specs.Room.{wordsOf, Leaves}
-use Rattle.tight.specs.Rows.{replaced, raised, rowSum}
-use Rattle.tight.specs.Access.{if, risk, comesTo, lostTo, missTo, rowGoes, Summable}
+use Rattle.tight_rows.specs.Room.{wordsOf, Leaves}
+use Rattle.tight_rows.specs.Rows.{replaced, raised, rowSum, if, comesTo}
+use Rattle.tight.specs.Access.{risk, lostTo, missTo, rowGoes, Summable}
 use Rattle.tight.specs.Splitting.{canLose}
 use Rattle.tight.specs.Sending.{startAt, maskIn, unitsIn, partIn, stayIn, goesFrom, mostFrom, restIn, Sending, Addable, Totalling, Totalled}
-use Rattle.tight.proofs.Adding.{sum-part}
-use Rattle.tight.proofs.Raising.{raised-at, raised-beside, raised-none, raised-then, raised-same, raised-one, live-most, live-part, lost-everywhere, lost-most}
-use Rattle.tight.proofs.RowsKept.{row-before}
+use Rattle.tight_rows.proofs.Adding.{sum-part}
+use Rattle.tight_rows.proofs.Raising.{raised-at, raised-beside, raised-none, raised-then, raised-same, raised-one, live-most, live-part, lost-everywhere, lost-most}
 use Rattle.tight.proofs.Access.{sum-zero}
-use Rattle.tight.proofs.Grids.{sum-none}
-use Rattle.tight.proofs.Writing.{as-before, written-at}
+use Rattle.tight_rows.proofs.Grids.{sum-none}
+use Rattle.tight_rows.proofs.Writing.{as-before, written-at, row-before}
 
 -- ---- one row
 

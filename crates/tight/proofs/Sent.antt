@@ -24,13 +24,14 @@ use Rattle.rules.proofs.Lists.{every-append, every-map, every-weaker}
 use Rattle.rules.proofs.Run.{states-follow}
 use Rattle.tight_rules.specs.Rows.{unitsIn, move, narrow, narrowed}
 use Rattle.tight_rules.specs.Run.{stepped}
-use Rattle.tight.specs.Access.{if, risk, evicts, comesTo, lostTo, missTo, rowGoes, goesTo, restTo, further, sends, arrives}
+use Rattle.tight.specs.Access.{risk, evicts, lostTo, missTo, rowGoes, goesTo, restTo, further, sends, arrives}
+use Rattle.tight_rows.specs.Rows.{if, comesTo}
 use Rattle.tight.specs.Splitting.{canLose}
-use Rattle.tight.specs.Grid.{Grid, stateOf, tableOf, rowsOf}
+use Rattle.tight_rows.specs.Grid.{Grid, stateOf, tableOf, rowsOf}
 use Rattle.tight.specs.Accessed.{loses, partOf, stayOf, leftInAll, hitIn, missIn, sumFor, brings, cellFor}
-use Rattle.tight.proofs.Cells.{unitsWhere, where-alike, where-moved, total-where, units-in-where}
-use Rattle.tight.proofs.Columns.{where-none}
-use Rattle.tight.proofs.Grids.{sum-none, sum-grid}
+use Rattle.tight_rows.proofs.Cells.{unitsWhere, where-alike, where-moved, total-where, units-in-where}
+use Rattle.tight_ends.proofs.Columns.{where-none}
+use Rattle.tight_rows.proofs.Grids.{sum-none, sum-grid}
 use Rattle.tight.proofs.Access.{landing, if-plus, if-zero, row-picked, same-number, follow-lands, none-lands, after-full, access-lands}
 
 -- ---- sums

@@ -16,20 +16,21 @@ use Rattle.rules.specs.Filling.{fillOne}
 use Rattle.rules.specs.Shape.{Aimed}
 use Rattle.tight_rules.specs.Run.{alive}
 use Rattle.plan.specs.Plan.{unitsAt, planned}
-use Rattle.tight.specs.declared.Opening.{Opening}
+use Rattle.tight_rows.specs.declared.Opening.{Opening}
 use Rattle.tight.specs.declared.Receiver.{Receiver}
 use Rattle.tight.specs.declared.Sender.{Sender}
-use Rattle.tight.specs.Room.{Words, wordsOf, Leaves, countAt, maskAt, cellAt, slotWords}
-use Rattle.tight.specs.Numbers.{sumIn, goesIn, numberIn, some as someOf, rankOf, Opened}
+use Rattle.tight_rows.specs.Room.{Words, wordsOf, Leaves, countAt, maskAt, cellAt, slotWords}
+use Rattle.tight_rows.specs.Numbers.{sumIn, goesIn, numberIn, some as someOf, rankOf, Opened}
 use Rattle.tight.specs.Moving.{plus}
 use Rattle.tight.specs.Sending.{startAt, comesFrom, restComes, Totalled, Receiving, Movings}
-use Rattle.tight.specs.Access.{if, comesTo, further}
+use Rattle.tight.specs.Access.{further}
+use Rattle.tight_rows.specs.Rows.{if, comesTo}
 use Rattle.tight.specs.Accessed.{hitIn, missIn, sumFor, cellFor, senderOf, openingOf, Laid, Sendable, Accessed, Holding}
-use Rattle.tight.specs.Grid.{Grid, gridOf}
+use Rattle.tight_rows.specs.Grid.{Grid, gridOf}
 use Rattle.tight.specs.Passing.{receiverOf}
-use Rattle.tight.specs.Stage.{Groups}
-use Rattle.tight.proofs.MasksNumbered.{rank-rises, row-known, masks-rise, number-end}
-use Rattle.tight.proofs.RowsKept.{row-before}
+use Rattle.tight_ends.specs.Stage.{Groups}
+use Rattle.tight_rows.proofs.MasksNumbered.{rank-rises, row-known, masks-rise, number-end}
+use Rattle.tight_rows.proofs.Writing.{row-before}
 use Rattle.tight.proofs.RowsMoved.{moved-beside}
 use Rattle.tight.proofs.SumsMeant.{sums-meant}
 use Rattle.tight.proofs.CellsMeant.{cell-meant}

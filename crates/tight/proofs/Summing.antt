@@ -10,10 +10,10 @@ use lib.ListN.{length, set}
 use borrow.Author.Tests.{eq-eqb, ne-eqb}
 use Rattle.rules.specs.declared.Target.{Target}
 use Rattle.rules.specs.Contents.{hits, bit, with, without, shared, size}
-use Rattle.tight.specs.Room.{wordsOf, Leaves}
-use Rattle.tight.specs.Rows.{raised}
-use Rattle.tight.specs.Access.{if, risk, comesTo, lostTo, missTo, rowGoes, Summable}
-use Rattle.tight.proofs.Raising.{raised-at, raised-none, raised-then, raised-same, raised-one, live-most, lostBelow, lost-more, lost-nothing-yet, lost-everywhere, lost-most}
+use Rattle.tight_rows.specs.Room.{wordsOf, Leaves}
+use Rattle.tight_rows.specs.Rows.{raised, if, comesTo}
+use Rattle.tight.specs.Access.{risk, lostTo, missTo, rowGoes, Summable}
+use Rattle.tight_rows.proofs.Raising.{raised-at, raised-none, raised-then, raised-same, raised-one, live-most, lostBelow, lost-more, lost-nothing-yet, lost-everywhere, lost-most}
 
 module _ (plan C E : ℕ) (x : Target) (L u : ℕ) where
   -- the units that go to D where the block at place e is lost

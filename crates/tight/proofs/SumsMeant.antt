@@ -9,14 +9,14 @@ use Rattle.rules.specs.declared.Target.{Target}
 use Rattle.rules.specs.Contents.{with}
 use Rattle.rules.specs.Units.{whole}
 use Rattle.tight.specs.declared.Sender.{Sender}
-use Rattle.tight.specs.Room.{Words}
-use Rattle.tight.specs.Rows.{selected}
+use Rattle.tight_rows.specs.Room.{Words}
+use Rattle.tight_rows.specs.Rows.{selected, if, comesTo}
 use Rattle.tight.specs.Splitting.{canLose}
 use Rattle.tight.specs.Sending.{startAt, partIn, stayIn, restIn, goesFrom}
-use Rattle.tight.specs.Access.{if, comesTo, rowGoes}
+use Rattle.tight.specs.Access.{rowGoes}
 use Rattle.tight.specs.Accessed.{loses, partOf, stayOf, leftIn, leftInAll, sumFor, Sendable}
-use Rattle.tight.specs.Grid.{Grid}
-use Rattle.tight.proofs.Adding.{sum-term}
+use Rattle.tight_rows.specs.Grid.{Grid}
+use Rattle.tight_rows.proofs.Adding.{sum-term}
 use Rattle.tight.proofs.CellsChosen.{chosen-part}
 use Rattle.tight.proofs.RowsSummed.{goes-whole}
 

@@ -11,12 +11,9 @@ use Rattle.rules.specs.declared.Target.{Target}
 use Rattle.rules.specs.Contents.{hits, with, without, shared, held, size}
 use Rattle.rules.specs.Filling.{filledAt}
 use Rattle.rules.specs.Shape.{Listed}
-use Rattle.tight.specs.Room.{wordsOf}
-use Rattle.tight.specs.Grid.{Grid}
-
--- u units, if they are meant
-abbrev pub if : Bool → ℕ → ℕ
-if b u = cond b u 0
+use Rattle.tight_rows.specs.Room.{wordsOf}
+use Rattle.tight_rows.specs.Rows.{if}
+use Rattle.tight_rows.specs.Grid.{Grid}
 
 -- the blocks of C in the accessed set: those that a miss evicts, once every way may be filled
 abbrev pub risk : Target → ℕ → ℕ
@@ -25,10 +22,6 @@ risk x C = shared C (x .mates)
 -- whether a miss evicts, where F may be filled
 abbrev pub evicts : ℕ → Target → Filled → Bool
 evicts N x F = not (ltb (filledAt F (x .set)) N)
-
--- whether contents C come to D, when only what is live of them counts
-abbrev pub comesTo : ℕ → ℕ → ℕ → Bool
-comesTo L D C = eqb (shared C L) D
 
 -- at a miss of contents C, each block of E is lost by u units: those that go to masks that are meant
 unfoldable pub lostTo : Target → (ℕ → Bool) → ℕ → ℕ → ℕ → ℕ

@@ -16,15 +16,16 @@ use Rattle.rules.specs.Units.{whole, more}
 use Rattle.tight_rules.specs.Ends.{allowance}
 use Rattle.tight_rules.specs.Run.{advance, run}
 use Rattle.tight_rules.proofs.Moves.{Fit}
-use Rattle.tight.specs.declared.Opening.{Opening}
+use Rattle.tight_rows.specs.declared.Opening.{Opening}
 use Rattle.tight.specs.declared.Sender.{Sender}
-use Rattle.tight.specs.Room.{Words, slotWords}
+use Rattle.tight_rows.specs.Room.{Words, slotWords}
 use Rattle.tight.specs.Sending.{startAt, maskIn, unitsIn}
 use Rattle.tight.specs.Selecting.{ones, chosen}
-use Rattle.tight.specs.Access.{if, evicts, rowGoes, goesTo, further}
+use Rattle.tight.specs.Access.{evicts, rowGoes, goesTo, further}
+use Rattle.tight_rows.specs.Rows.{if}
 use Rattle.tight.specs.Splitting.{canLose}
-use Rattle.tight.specs.Grid.{Grid, rowsOf, Neat}
-use Rattle.tight.specs.Stage.{Groups}
+use Rattle.tight_rows.specs.Grid.{Grid, rowsOf, Neat}
+use Rattle.tight_ends.specs.Stage.{Groups}
 
 module _ (N : ℕ) (x : Target) (g : Grid) where
   -- whether a miss evicts a block at cell j

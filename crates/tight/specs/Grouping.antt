@@ -11,12 +11,12 @@ use Rattle.rules.specs.declared.Target.{Target}
 use Rattle.rules.specs.Contents.{hits}
 use Rattle.rules.specs.Filling.{fillOne}
 use Rattle.tight.specs.declared.Sender.{Sender}
-use Rattle.tight.specs.Room.{Words, wordsOf, countAt, baseAt, widthAt, lostAt}
-use Rattle.tight.specs.Access.{if}
+use Rattle.tight_rows.specs.Room.{Words, wordsOf, countAt, baseAt, widthAt, lostAt}
+use Rattle.tight_rows.specs.Rows.{if}
 use Rattle.tight.specs.Selecting.{ones}
 use Rattle.tight.specs.Sending.{startAt, maskIn}
-use Rattle.tight.specs.Settling.{filledWords}
-use Rattle.tight.specs.Stage.{stageAt}
+use Rattle.tight_rows.specs.Grid.{filledWords}
+use Rattle.tight_ends.specs.Stage.{stageAt}
 
 -- ---- units
 

@@ -10,9 +10,9 @@ use Rattle.basics.proofs.Sums.{sumTo}
 use Rattle.rules.specs.declared.Target.{Target}
 use Rattle.rules.specs.Contents.{hits, with, without, shared, held, size}
 use Rattle.tight.specs.declared.Route.{Route}
-use Rattle.tight.specs.Room.{Words, wordsOf}
-use Rattle.tight.specs.Rows.{within, selected}
-use Rattle.tight.specs.Access.{if, risk}
+use Rattle.tight_rows.specs.Room.{Words, wordsOf}
+use Rattle.tight_rows.specs.Rows.{within, selected, if}
+use Rattle.tight.specs.Access.{risk}
 
 -- every word has v more, by its place and the words before
 abbrev pub plus : (Words → ℕ → ℕ) → Words → Words

@@ -14,13 +14,13 @@ use Rattle.tight_rules.specs.Run.{alive}
 use Rattle.tight.specs.declared.Sender.{Sender}
 use Rattle.tight.specs.declared.Shares.{Shares}
 use Rattle.tight.specs.declared.SetAside.{SetAside}
-use Rattle.tight.specs.declared.Opening.{Opening}
+use Rattle.tight_rows.specs.declared.Opening.{Opening}
 use Rattle.tight.specs.declared.Receiver.{Receiver}
-use Rattle.tight.specs.Room.{wordsOf, Leaves, widthAt, slotWords}
+use Rattle.tight_rows.specs.Room.{wordsOf, Leaves, widthAt, slotWords}
 use Rattle.tight.specs.Access.{risk}
 use Rattle.tight.specs.Moving.{plus}
-use Rattle.tight.specs.Numbers.{sumIn, rankOf, Placed, Opened}
-use Rattle.tight.specs.Rows.{replaced}
+use Rattle.tight_rows.specs.Numbers.{sumIn, rankOf, Placed, Opened}
+use Rattle.tight_rows.specs.Rows.{replaced}
 use Rattle.tight.specs.Selecting.{Selects}
 use Rattle.tight.specs.Splitting.{Shared}
 use Rattle.tight.specs.Sending.{startAt, maskIn, comesFrom, restComes, Totalled}

@@ -6,9 +6,9 @@ use mathlib.Core.List.{List}
 use Prim.Native.Nat.{ℕ, _+_, _-_, _^_, _≤_, _<_}
 use lib.ListN.{length}
 use Rattle.rules.specs.declared.Target.{Target}
-use Rattle.tight.specs.Room.{Words, wordsOf}
+use Rattle.tight_rows.specs.Room.{Words, wordsOf}
 use Rattle.tight.specs.Access.{evicts}
-use Rattle.tight.specs.Settling.{filledWords}
+use Rattle.tight_rows.specs.Grid.{filledWords}
 
 -- a word that chooses a cell: it has all ones
 abbrev pub ones : ℕ

@@ -11,9 +11,9 @@ use Rattle.rules.specs.Shape.{Listed}
 use Rattle.tight.specs.declared.Route.{Route}
 use Rattle.tight.specs.declared.Sender.{Sender}
 use Rattle.tight.specs.declared.Receiver.{Receiver}
-use Rattle.tight.specs.Room.{Words, wordsOf}
-use Rattle.tight.specs.Rows.{rowSum}
-use Rattle.tight.specs.Access.{if, risk, comesTo, rowGoes}
+use Rattle.tight_rows.specs.Room.{Words, wordsOf}
+use Rattle.tight_rows.specs.Rows.{rowSum, if, comesTo}
+use Rattle.tight.specs.Access.{risk, rowGoes}
 use Rattle.tight.specs.Moving.{comes, endOf, rowUnits, rowComes}
 
 -- where row k starts

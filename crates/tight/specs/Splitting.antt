@@ -10,9 +10,9 @@ use Rattle.basics.proofs.Sums.{sumTo}
 use Rattle.rules.specs.declared.Target.{Target}
 use Rattle.rules.specs.Contents.{hits}
 use Rattle.tight.specs.declared.Shares.{Shares}
-use Rattle.tight.specs.Room.{Words, wordsOf}
-use Rattle.tight.specs.Rows.{partAt, leftAt, splitTo}
-use Rattle.tight.specs.Access.{if, risk}
+use Rattle.tight_rows.specs.Room.{Words, wordsOf}
+use Rattle.tight_rows.specs.Rows.{partAt, leftAt, splitTo, if}
+use Rattle.tight.specs.Access.{risk}
 
 -- whether contents C miss, and can lose a block
 abbrev pub canLose : Target → ℕ → Bool

@@ -10,7 +10,7 @@ ghost use mathlib.Core.Path.{_≡_};
 ghost use Prim.Native.Nat.{_+_, _*_, _^_, _<_};
 ghost use Rattle.basics.proofs.Sums.{sumTo};
 ghost use Rattle.rules.specs.Shape.{Listed};
-ghost use Rattle.tight.specs.Room.{Leaves};
+ghost use Rattle.tight_rows.specs.Room.{Leaves};
 ghost use Rattle.tight.specs.Moving.{plus, Movable};
 ghost use Rattle.tight.specs.Sending.{routeAt, restRoute, comesFrom, restComes, Receiving, RowMovable, Movings};
 

@@ -12,8 +12,9 @@ ghost use Prim.Native.Nat.{_≤_, _<_};
 ghost use Rattle.basics.specs.Sums.{sumOver};
 ghost use Rattle.rules.specs.Contents.{bit, with, without, shared, held, size};
 ghost use Rattle.rules.specs.Shape.{Listed};
-ghost use Rattle.tight.specs.Room.{Leaves};
-ghost use Rattle.tight.specs.Access.{if, risk};
+ghost use Rattle.tight_rows.specs.Room.{Leaves};
+ghost use Rattle.tight.specs.Access.{risk};
+ghost use Rattle.tight_rows.specs.Rows.{if};
 ghost use Rattle.tight.specs.Moving.{plus, comes, Movable, choosing as choosingOf, missComes, rowComes};
 
 // The row comes to `mask`, so many times, each word `shift` cells further on; `live` are all places that a mask may have.

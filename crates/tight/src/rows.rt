@@ -1,30 +1,10 @@
-// Rows of cells: cleared, summed, split and added to others.
+// Rows of cells: summed, split and added to others.
 ghost use mathlib.Core.Path.{_≡_};
 ghost use mathlib.Core.Logic.{_≢_};
 ghost use Prim.Native.Nat.{_+_, _%_, _^_, _≤_, _<_};
 ghost use lib.ListN.{length};
-ghost use Rattle.tight.specs.Room.{wordsOf, Leaves};
-ghost use Rattle.tight.specs.Rows.{replaced, withRow, rowSum, splitAt, splitTo, Addable, Splittable};
-
-// The `width` words from place `at` on are `word`.
-pub(crate) fn fill_row(work: &mut [u64], at: usize, width: usize, word: u64)
-    requires { ⌜ at + width ≤ length (now work) ⌝ }
-    ensures { λ _. ⌜ Leaves (λ w. replaced at width (λ j. word) w) (now (work .entry)) (now (work .exit)) ⌝ }
-{
-    let mut j: usize = 0;
-    while j < width {
-        work[at + j] = word;
-        j += 1;
-    }
-}
-
-// They are 0.
-pub(crate) fn clear_row(work: &mut [u64], at: usize, width: usize)
-    requires { ⌜ at + width ≤ length (now work) ⌝ }
-    ensures { λ _. ⌜ Leaves (λ w. replaced at width (λ j. 0) w) (now (work .entry)) (now (work .exit)) ⌝ }
-{
-    fill_row(work, at, width, 0);
-}
+ghost use Rattle.tight_rows.specs.Room.{wordsOf, Leaves};
+ghost use Rattle.tight_rows.specs.Rows.{replaced, withRow, rowSum, splitAt, splitTo, Addable, Splittable};
 
 // What is selected of the row at `from`, in all.
 pub(crate) fn row_sum(work: &[u64], from: usize, select: usize, width: usize) -> u64

@@ -1,13 +1,13 @@
 // Rows of words that choose cells: those of which a miss evicts a block, those of which it evicts none, and all.
-use crate::rows::fill_row;
-use crate::settle::filled_at;
 use rules::Target;
 use states::filled::number_of;
+use tight_rows::rows::fill_row;
+use tight_rows::rows::filled_at;
 ghost use mathlib.Core.Path.{_≡_};
 ghost use Prim.Native.Nat.{_+_, _-_, _≤_, _<_};
 ghost use lib.ListN.{length};
-ghost use Rattle.tight.specs.Room.{wordsOf, Leaves};
-ghost use Rattle.tight.specs.Rows.{replaced};
+ghost use Rattle.tight_rows.specs.Room.{wordsOf, Leaves};
+ghost use Rattle.tight_rows.specs.Rows.{replaced};
 ghost use Rattle.tight.specs.Selecting.{ones, chosen, losesAt, Selectable, Selects};
 
 // All ones where a miss evicts a block at cell `j`, otherwise 0.

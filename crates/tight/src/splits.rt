@@ -7,8 +7,8 @@ ghost use mathlib.Core.Path.{_≡_};
 ghost use Prim.Native.Nat.{_<_};
 ghost use lib.ListN.{length};
 ghost use Rattle.rules.specs.Shape.{Listed};
-ghost use Rattle.tight.specs.Room.{Leaves};
-ghost use Rattle.tight.specs.Rows.{Splittable};
+ghost use Rattle.tight_rows.specs.Room.{Leaves};
+ghost use Rattle.tight_rows.specs.Rows.{Splittable};
 ghost use Rattle.tight.specs.Splitting.{canLose, splitIf, Shareable, Shared};
 
 // Whether contents `mask` miss, and can lose a block.

@@ -1,21 +1,21 @@
 // The stage of an access: of each column the units that hit and those that miss, and the filled numbers of both; and the header of the slot that they are for.
 use crate::Sender;
 use crate::rows::add_row;
-use crate::rows::clear_row;
-use crate::settle::filled_at;
 use rules::Filled;
 use rules::State;
 use rules::Target;
 use rules::Units;
 use states::step::fuller;
 use tables::has_block;
+use tight_rows::rows::clear_row;
+use tight_rows::rows::filled_at;
 ghost use mathlib.Core.Path.{_≡_};
 ghost use mathlib.Core.Logic.{_⊎_};
 ghost use Prim.Native.Nat.{ℕ, suc, _+_, _*_, _^_, _≤_, _<_};
 ghost use lib.ListN.{length};
 ghost use Rattle.rules.specs.Filling.{fillOne};
 ghost use Rattle.rules.specs.Shape.{Listed};
-ghost use Rattle.tight.specs.Room.{wordsOf, widthAt};
+ghost use Rattle.tight_rows.specs.Room.{wordsOf, widthAt};
 ghost use Rattle.tight.specs.Sending.{startAt};
 ghost use Rattle.tight.specs.Grouping.{columnOf, Counting, ColumnFits, RowCounted, CountedTo, UnitsStaged, groupPut, Grouping, Grouped, HeaderSent};
 

@@ -1,12 +1,9 @@
 // One access of the second curve, part by part.
-use crate::Opening;
 use crate::Receiver;
 use crate::Sender;
 use crate::SetAside;
 use crate::Shares;
 use crate::arrivals::move_all;
-use crate::opens::open_rows;
-use crate::rows::clear_row;
 use crate::selects::select_rows;
 use crate::splits::split_rows;
 use crate::stages::put_groups;
@@ -17,12 +14,15 @@ use plan::reduce;
 use rules::Place;
 use rules::Target;
 use tables::has_place;
+use tight_rows::Opening;
+use tight_rows::opens::open_rows;
+use tight_rows::rows::clear_row;
 ghost use mathlib.Core.Path.{_≡_};
 ghost use Prim.Native.Nat.{_+_, _^_, _≤_, _<_};
 ghost use lib.ListN.{length};
 ghost use Rattle.rules.specs.Shape.{Listed};
 ghost use Rattle.tight_rules.specs.Run.{alive};
-ghost use Rattle.tight.specs.Room.{slotWords};
+ghost use Rattle.tight_rows.specs.Room.{slotWords};
 ghost use Rattle.tight.specs.Sending.{Totalling};
 ghost use Rattle.tight.specs.Passing.{sharesOf, Preparing, RowsPrepared, PlanReduced, Planned, receiverOf, Delivering, Delivered};
 

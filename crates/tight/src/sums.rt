@@ -5,14 +5,15 @@ use tables::has_place;
 use tables::size_of;
 use tables::with_block;
 use tables::without_place;
+use tight_rows::rows::add_units;
 ghost use mathlib.Core.Path.{_≡_};
 ghost use Prim.Native.Nat.{ℕ, suc, _+_, _*_, _^_, _≤_, _<_};
-ghost use lib.ListN.{length, set};
+ghost use lib.ListN.{length};
 ghost use Rattle.rules.specs.Contents.{bit, with, without, shared};
 ghost use Rattle.rules.specs.Shape.{Listed};
-ghost use Rattle.tight.specs.Room.{wordsOf, Leaves};
-ghost use Rattle.tight.specs.Rows.{raised};
-ghost use Rattle.tight.specs.Access.{if, comesTo, lostTo, missTo, rowGoes, Summable};
+ghost use Rattle.tight_rows.specs.Room.{wordsOf, Leaves};
+ghost use Rattle.tight_rows.specs.Rows.{raised, if, comesTo};
+ghost use Rattle.tight.specs.Access.{lostTo, missTo, rowGoes, Summable};
 
 // The contents with the accessed block, as far as they are live.
 pub(crate) fn comes_to(mask: u64, x: Target, live: u64) -> u64
@@ -21,15 +22,6 @@ pub(crate) fn comes_to(mask: u64, x: Target, live: u64) -> u64
 {
     let place = x.place;
     with_block(mask, place) & live
-}
-
-// So many units more go to `mask`.
-pub(crate) fn add_units(work: &mut [u64], plan: usize, mask: u64, units: u64)
-    requires { ⌜ (plan + mask < length (now work)) × (wordsOf (now work) (plan + mask) + units < 2 ^ 64) ⌝ }
-    ensures { λ _. ⌜ now (work .exit) ≡ set (now (work .entry)) (plan + mask) (wordsOf (now (work .entry)) (plan + mask) + units) ⌝ }
-{
-    let at = plan + mask as usize;
-    work[at] = work[at] + units;
 }
 
 // `units` units of `mask` lose the block at place `at`, where it is one of `risk`.

@@ -1,17 +1,17 @@
 // The units that go to each mask at an access, of all contents.
 use crate::Sender;
-use crate::rows::clear_row;
 use crate::rows::row_sum;
 use crate::splits::can_lose;
-use crate::sums::add_units;
 use crate::sums::comes_to;
 use crate::sums::sum_contents;
 use rules::Target;
+use tight_rows::rows::add_units;
+use tight_rows::rows::clear_row;
 ghost use Prim.Native.Nat.{suc, _+_, _<_};
 ghost use lib.ListN.{length};
 ghost use Rattle.basics.proofs.Sums.{sumTo};
-ghost use Rattle.tight.specs.Room.{wordsOf, Leaves};
-ghost use Rattle.tight.specs.Rows.{raised};
+ghost use Rattle.tight_rows.specs.Room.{wordsOf, Leaves};
+ghost use Rattle.tight_rows.specs.Rows.{raised};
 ghost use Rattle.tight.specs.Access.{Summable};
 ghost use Rattle.tight.specs.Sending.{maskIn, unitsIn, partIn, stayIn, goesFrom, Sending, Addable, Totalling, Totalled};
 

@@ -1,80 +1,40 @@
 // The cases, line by line: the first letter of a line says what it is.
 use crate::graph::graph_line;
-use crate::inside::quick_line;
-use crate::lines::field_of;
-use crate::lines::find;
-use crate::lines::next_line;
-use crate::lines::read_fields;
-use crate::listings::listing_line;
 use crate::nights::night_line;
-use crate::report::Report;
-use crate::tables::allowed_line;
-use crate::tables::ladder_line;
-use crate::tables::row_line;
-use crate::tables::time_line;
-use crate::traces::trace_line;
+use case_text::fields::kind_of;
+use case_text::fields::name_of;
+use case_text::fields::next_line;
+use case_text::fields::read_line;
+use case_text::report::Report;
 
-// What is written of a line first: its name. A worked case and a graph with pairings write it before each of their answers, and of a remark nothing is written.
-fn say_name(kind: u8, name: &[u8]) {
+// A line of a graph, or of a list of graphs. One that begins with another letter is a remark, or empty.
+fn case(kind: u8, name: &[u8], line: &[u64], report: Report) -> Report {
     match kind {
-        b'w' | b'j' | b'#' | b'\n' => {}
-        _ => {
+        b'w' | b'j' => graph_line(kind, name, line, report),
+        b'r' | b'p' | b'f' | b'u' => {
             io::write_all(1, name);
+            graph_line(kind, name, line, report)
         }
-    }
-}
-
-// A line of a graph, of a row, of a listing, of a list of graphs, or of a trace. One that begins with another letter is a remark, or empty.
-fn case(kind: u8, name: &[u8], line: &[u64], trace: &mut [u8], report: Report) -> Report {
-    match kind {
-        b'w' | b'r' | b'p' | b'f' | b'j' | b'u' => graph_line(kind, name, line, report),
-        b'q' => row_line(line, field_of(line, 3), report),
-        b't' => time_line(line, field_of(line, 2), report),
-        b'a' => allowed_line(line, field_of(line, 2), report),
-        b'l' => ladder_line(line, report),
-        b'i' => quick_line(line, field_of(line, 2), report),
-        b'o' => night_line(line, report),
-        b'c' => listing_line(line, report),
-        b'n' | b'b' | b'e' | b's' | b'm' | b'd' | b'g' => trace_line(kind, line, trace, report),
+        b'o' => {
+            io::write_all(1, name);
+            night_line(line, report)
+        }
         _ => report,
     }
 }
 
-// The name stands between the first space and the space before the first stroke; a line may have none.
-fn name_of<'a>(text: &'a [u8], space: usize, stroke: usize) -> &'a [u8] {
-    if text.len() < stroke {
-        return &text[0..0];
-    }
-    if stroke <= space {
-        return &text[0..0];
-    }
-    if stroke - space < 2 {
-        return &text[0..0];
-    }
-    let from = space + 1;
-    let end = stroke - 1;
-    &text[from..end]
-}
-
 // The line that begins at place `from`.
-fn line_of(text: &[u8], from: usize, line: &mut [u64], trace: &mut [u8], report: Report) -> Report {
-    if text.len() <= from {
-        return report;
-    }
-    let kind = text[from];
-    let stroke = find(text, from, b'|');
-    read_fields(text, stroke, find(text, from, b'\n'), line);
-    let name = name_of(text, find(text, from, b' '), stroke);
-    say_name(kind, name);
-    case(kind, name, line, trace, report)
+fn line_of(text: &[u8], from: usize, line: &mut [u64], report: Report) -> Report {
+    read_line(text, from, line);
+    case(kind_of(text, from), name_of(text, from), line, report)
 }
 
 // Every line of the text.
-pub(crate) fn all_cases(text: &[u8], line: &mut [u64], trace: &mut [u8], report: Report) -> Report {
+pub(crate) fn all_cases(text: &[u8], line: &mut [u64], report: Report) -> Report {
     let mut all = report;
     let mut from: usize = 0;
     while from < text.len() {
-        all = line_of(text, from, line, trace, all);
+        all = line_of(text, from, line, all);
         from = next_line(text, from);
     }
     all

@@ -4,14 +4,14 @@
 //     floor NAME | .. | answer | states | units at each miss count | units at each hit count
 //
 // where a state is exact/mask/misses/hits/units, with 1 for an exact one and 0 for an open one.
-use crate::lines::field_of;
-use crate::numbers::say;
-use crate::numbers::say_answer;
-use crate::report::Report;
-use crate::rooms::has_only;
-use crate::rooms::mark;
 use best_questions::hit_spread_in;
 use best_questions::miss_spread_in;
+use case_text::fields::field_of;
+use case_text::report::Report;
+use case_text::rooms::has_only;
+use case_text::rooms::mark;
+use case_text::shown::say;
+use case_text::shown::say_answer;
 use rules::HitCount;
 use rules::MissCount;
 

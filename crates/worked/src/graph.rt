@@ -9,23 +9,23 @@
 //
 // where 18446744073709551615 stands for no pairing, and a row is a place in the table joined so far, a place in the joined one, and units. One that is accepted is `joined`, and written as
 // a worked case is; one that is refused is `unjoined`.
-use crate::asked::ask_case;
-use crate::calls::Got;
-use crate::calls::called;
-use crate::calls::path_of;
+use crate::answers::ask_case;
+use crate::calling::Got;
+use crate::calling::called;
+use crate::calling::path_of;
 use crate::floors::ask_floor;
-use crate::lines::count;
-use crate::lines::field_of;
-use crate::lines::number;
-use crate::numbers::say;
-use crate::numbers::say_answer;
-use crate::numbers::say_states;
-use crate::report::Report;
-use crate::rooms::first;
-use crate::rooms::is_cleared;
-use crate::rooms::is_left;
-use crate::rooms::mark;
-use crate::said::Said;
+use case_text::fields::count;
+use case_text::fields::field_of;
+use case_text::fields::number;
+use case_text::report::Report;
+use case_text::rooms::first;
+use case_text::rooms::is_cleared;
+use case_text::rooms::is_left;
+use case_text::rooms::mark;
+use case_text::said::Said;
+use case_text::shown::say;
+use case_text::shown::say_answer;
+use case_text::shown::say_number;
 
 // What the longest path has to answer where the graph call answers `refusal`. It is lent no room, so 6 does not apply. In every input of
 // the graph call here that passes, one path has all accesses.
@@ -93,6 +93,28 @@ fn compare_left(line: &[u64], result: &[u64], work: &[u64], report: Report) -> R
     report
         .compared(is_left(answer, result, field_of(line, 8)))
         .compared(is_cleared(cleared_by(answer), work))
+}
+
+// One state, as mask/misses/units.
+fn say_state(mask: u64, misses: u64, units: u64) {
+    say_number(mask);
+    io::write_all(1, b"/");
+    io::print_decimal(1, misses);
+    io::write_all(1, b"/");
+    io::print_decimal(1, units);
+}
+
+// The first `states` states of a room; those that the room cannot hold are not written.
+fn say_states(room: &[u64], states: usize) {
+    let held = room.len() / 5;
+    let mut i: usize = 0;
+    while i < held {
+        if states <= i {
+            return;
+        }
+        say_state(room[i * 5], room[i * 5 + 1], room[i * 5 + 4]);
+        i += 1;
+    }
 }
 
 // A worked case: the states that it got are written, and every question is put to them, in cycles with its longest path.

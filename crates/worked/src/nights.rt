@@ -3,18 +3,18 @@
 //     overnight NAME | words of the rows and of the working room, allowance, answer | numbers | rows | report
 //
 // where the answer is 0 or the number of a refusal, which leaves all three as they were.
-use crate::lines::copy_small;
-use crate::lines::count;
-use crate::lines::field_of;
-use crate::lines::list_of;
-use crate::lines::number;
-use crate::numbers::say_answer;
-use crate::report::Report;
-use crate::rooms::first;
-use crate::rooms::has_only;
-use crate::rooms::is_cleared;
-use crate::rooms::is_left;
-use crate::rooms::mark;
+use case_text::fields::copy_small;
+use case_text::fields::count;
+use case_text::fields::field_of;
+use case_text::fields::list_of;
+use case_text::fields::number;
+use case_text::report::Report;
+use case_text::rooms::first;
+use case_text::rooms::has_only;
+use case_text::rooms::is_cleared;
+use case_text::rooms::is_left;
+use case_text::rooms::mark;
+use case_text::shown::say_answer;
 use nightly::Built;
 use nightly::build;
 

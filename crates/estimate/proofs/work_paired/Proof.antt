@@ -1,4 +1,4 @@
--- `work_paired` looks at the form, works every node and looks at whether every pairing was accepted; then the last node's table is handed over.
+-- `work_paired` looks at the form and works every node; how it ends is left to `close`.
 use mathlib.Core.Path.{_∙_}
 use native.Mathlib.Omega.{arith}
 use denote.Ref.{now}
@@ -7,8 +7,8 @@ use Rattle.rules.specs.Entries.{entryOf}
 use Rattle.rules.proofs.Refusals.{checked}
 use Rattle.words.specs.Tables.{tableOf}
 use Rattle.estimate.specs.Call.{handed}
-use Rattle.calls.proofs.Leaving.{leaves-unfit, leaves-paired}
-use Rattle.estimate.proofs.Calls.{form-of, formed-so, unformed, fit-so, last-table, last-aside, finished-fits}
+use Rattle.calls.proofs.Leaving.{leaves-unfit}
+use Rattle.estimate.proofs.Calls.{form-of, formed-so, unformed, fit-so, last-table, last-aside, finished-fits, closed-leaves}
 use borrow.Author.Tests.{not-true, not-false}
 use borrow.Author.Needs.{needs}
 use Rattle.estimate.proofs.work_paired.Statement.{statement}
@@ -25,20 +25,13 @@ work-nodes-requires c κs = let a = c .before .before .before .before .before .b
     let ok = checked _ (c .before .before .before .before .before .before .before .before .before .before .before .before .pre) in
     (omega (arith, ok .working-room), checked-without (a .cache) (a .limit) (now (a .tracked)) (now (a .runs)) (now (a .accesses)) (now (a .edges)) _ _ ok, formed-so _ _ _ _ (c .before .before .in-form .ensures) (not-false _ (c .before .if1 .left)))
 
-returns-2 : tie.Need-returns-2
-returns-2 c = let a = c .before .before .before .before .before .before .before .before .before .before .before .before .before .before .before .before .before .before .before .before .before .args in
-    let g = c .before .before .before .before .before .before .before .before .work-nodes in
-    leaves-unfit (a .cache) (a .limit) (now (a .tracked)) (now (a .runs)) (now (a .accesses)) (now (a .edges)) (now (a .counts)) (now (a .rows)) (now (a .result)) (now (a .work)) _ _ (c .before .before .before .before .before .before .before .before .before .before .before .before .before .before .before .before .before .before .before .before .before .pre)
-    (fit-so (a .cache) (a .limit) (now (a .tracked)) (now (a .runs)) (now (a .accesses)) (now (a .edges)) (now (a .counts)) (now (a .rows)) (now (a .result)) (now (a .work)) _ _ (form-of _ (now (a .edges)) (now (a .runs)) _ _ (c .before .before .before .before .before .before .before .before .before .before .before .before .joins-to .ensures) (c .before .before .before .before .before .before .before .before .before .before .before .in-form .ensures)) (not-false _ (c .before .before .before .before .before .before .before .before .before .before .if1 .left)) (g .ensures .1) ∙ not-true _ (c .before .before .before .before .if2 .taken))
-    (c .before .before .refuse-pairing2 .ensures .0) (rw (g .kept .0) at (c .before .before .refuse-pairing2 .ensures .1))
+sub-close : tie.Need-sub-close
+sub-close c = omega (arith, checked _ (c .before .before .before .before .before .before .before .before .before .before .before .before .before .before .before .before .before .pre) .some-nodes)
 
-sub-hand-over : tie.Need-sub-hand-over
-sub-hand-over c = omega (arith, checked _ (c .before .before .before .before .before .before .before .before .before .before .before .before .before .before .before .before .before .before .before .pre) .some-nodes)
-
-hand-over-requires : tie.Need-hand-over-requires
-hand-over-requires c κs = let a = c .before .before .before .before .before .before .before .before .before .before .before .before .before .before .before .before .before .before .before .args in
-    let ok = checked _ (c .before .before .before .before .before .before .before .before .before .before .before .before .before .before .before .before .before .before .before .pre) in
-    let g = c .before .before .before .before .before .before .work-nodes in
+close-requires : tie.Need-close-requires
+close-requires c κs = let a = c .before .before .before .before .before .before .before .before .before .before .before .before .before .before .before .before .before .args in
+    let ok = checked _ (c .before .before .before .before .before .before .before .before .before .before .before .before .before .before .before .before .before .pre) in
+    let g = c .before .before .before .before .work-nodes in
     let q = entryOf (now (a .counts)) (now (a .rows)) in
     let table = last-table (a .cache) (a .limit) (now (a .tracked)) (now (a .runs)) (now (a .accesses)) (now (a .edges)) (now (a .result)) (now (a .work)) (g .result .aside .0) (tableOf (g .last .0)) (ok .some-nodes) q (g .ensures .0) in (
       omega (arith, ok .few-nodes),
@@ -46,17 +39,18 @@ hand-over-requires c κs = let a = c .before .before .before .before .before .be
       rw table (omega (arith, finished-fits q (handed (a .cache) (a .limit) (now (a .tracked)) (now (a .runs)) (now (a .accesses)) (now (a .edges)) (now (a .result)) (now (a .work))) ok, ok .result-room)),
     )
 
-returns-3 : tie.Need-returns-3
-returns-3 c = let a = c .before .before .before .before .before .before .before .before .before .before .before .before .before .before .before .before .before .before .before .before .before .before .before .before .before .args in
-    let ok = checked _ (c .before .before .before .before .before .before .before .before .before .before .before .before .before .before .before .before .before .before .before .before .before .before .before .before .before .pre) in
-    let g = c .before .before .before .before .before .before .before .before .before .before .before .before .work-nodes in
-    let h = c .before .before .before .before .before .hand-over .ensures in
+returns-2 : tie.Need-returns-2
+returns-2 c = let x = c .before .before .before .before .before .before .before .before .before .before .before .before .before .before .before .before .before .before .before .before .before .before in
+    let a = x .args in
+    let ok = checked _ (x .pre) in
+    let g = c .before .before .before .before .before .before .before .before .before .work-nodes in
     let q = entryOf (now (a .counts)) (now (a .rows)) in
-    leaves-paired (a .cache) (a .limit) (now (a .tracked)) (now (a .runs)) (now (a .accesses)) (now (a .edges)) (now (a .counts)) (now (a .rows)) (now (a .result)) (now (a .work)) _ _ _ _ _ (c .before .before .before .before .before .before .before .before .before .before .before .before .before .before .before .before .before .before .before .before .before .before .before .before .before .pre)
-    (fit-so (a .cache) (a .limit) (now (a .tracked)) (now (a .runs)) (now (a .accesses)) (now (a .edges)) (now (a .counts)) (now (a .rows)) (now (a .result)) (now (a .work)) _ _ (form-of _ (now (a .edges)) (now (a .runs)) _ _ (c .before .before .before .before .before .before .before .before .before .before .before .before .before .before .before .before .joins-to .ensures) (c .before .before .before .before .before .before .before .before .before .before .before .before .before .before .before .in-form .ensures)) (not-false _ (c .before .before .before .before .before .before .before .before .before .before .before .before .before .before .if1 .left)) (g .ensures .1) ∙ not-false _ (c .before .before .before .before .before .before .before .before .if2 .left))
+    c .before .before .before .before .close .ensures
+    ∙ closed-leaves (a .cache) (a .limit) (now (a .tracked)) (now (a .runs)) (now (a .accesses)) (now (a .edges)) (now (a .counts)) (now (a .rows)) (now (a .result)) (now (a .work)) (g .result .fits) _ (g .result .aside) _ (x .pre)
+    (fit-so (a .cache) (a .limit) (now (a .tracked)) (now (a .runs)) (now (a .accesses)) (now (a .edges)) (now (a .counts)) (now (a .rows)) (now (a .result)) (now (a .work)) _ _ (form-of _ (now (a .edges)) (now (a .runs)) _ _ (c .before .before .before .before .before .before .before .before .before .before .before .before .before .joins-to .ensures) (c .before .before .before .before .before .before .before .before .before .before .before .before .in-form .ensures)) (not-false _ (c .before .before .before .before .before .before .before .before .before .before .before .if1 .left)) (g .ensures .1))
     (last-table (a .cache) (a .limit) (now (a .tracked)) (now (a .runs)) (now (a .accesses)) (now (a .edges)) (now (a .result)) (now (a .work)) (g .result .aside .0) (tableOf (g .last .0)) (ok .some-nodes) q (g .ensures .0))
     (last-aside (a .cache) (a .limit) (now (a .tracked)) (now (a .runs)) (now (a .accesses)) (now (a .edges)) (now (a .result)) (now (a .work)) (g .result .aside .0) (tableOf (g .last .0)) (ok .some-nodes) q (g .ensures .0))
-    (h .0) (h .1 .0) (rw (g .kept .0) at (h .1 .1))
+    (g .kept .0)
 
 pub work-paired-spec : {M : Type 1} → statement M
 work-paired-spec =
@@ -68,11 +62,8 @@ work-paired-spec =
     (λ c. search needs)
     returns
     work-nodes-requires
-    (λ c κs. search needs)
-    (λ c. search needs)
-    returns-2
-    sub-hand-over
-    hand-over-requires
+    sub-close
+    close-requires
     (λ c. search needs)
     (λ c. search needs)
-    returns-3)
+    returns-2)

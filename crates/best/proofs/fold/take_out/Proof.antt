@@ -12,10 +12,10 @@ use Rattle.best.proofs.fold.take_out.Statement.{statement}
 use Rattle.best.proofs.fold.take_out.Tie as tie
 
 abbrev Inv-loop : tie.InvT-loop
-Inv-loop words₀ n at j₀ words j = (at ≤ j) × (j < n) × (length words ≡ length words₀) × Closing listing at j (tableOf words₀) (tableOf words)
+Inv-loop words₀ n at last j₀ words j = (at ≤ j) × (j < n) × (length words ≡ length words₀) × Closing listing at j (tableOf words₀) (tableOf words)
 
 abbrev μ-loop : tie.MeasureT-loop
-μ-loop words₀ n at j₀ words j = n - j
+μ-loop words₀ n at last j₀ words j = n - j
 
 loop-holds : tie.Need-loop-holds Inv-loop μ-loop
 loop-holds c = (search needs, search needs, refl, closing-none listing _ _)
@@ -39,8 +39,8 @@ take-out-spec =
     (tie.spec
     Inv-loop
     μ-loop
-    loop-holds
     (λ c. search needs)
+    loop-holds
     (λ c. search needs)
     (λ c κs. search needs)
     (λ c κs. search needs)

@@ -1,13 +1,13 @@
--- `load` reads the five words of a state, which lie within the slice.
-use mathlib.Core.Path.{sym}
-use native.Mathlib.Omega.{arith}
-use Rattle.words.proofs.Tables.{row-at}
+-- `load` has the five words of a state read as a table of one state.
+use mathlib.Core.Path.{_∙_}
+use denote.Ref.{now}
 use borrow.Author.Needs.{needs}
+use Rattle.searches.proofs.Parts.{part-at}
 use Rattle.estimate.proofs.memory.load.Statement.{statement}
 use Rattle.estimate.proofs.memory.load.Tie as tie
 
 returns : tie.Need-returns
-returns c = sym (row-at _ _ _ (omega arith))
+returns c = let a = c .before .before .before .args in c .state-at .ensures ∙ part-at (now (a .words)) (a .at)
 
 pub load-spec : {M : Type 1} → statement M
 load-spec =
@@ -19,13 +19,5 @@ load-spec =
     (λ c. search needs)
     (λ c. search needs)
     (λ c. search needs)
-    (λ c. search needs)
-    (λ c. search needs)
-    (λ c. search needs)
-    (λ c. search needs)
-    (λ c. search needs)
-    (λ c. search needs)
-    (λ c. search needs)
-    (λ c. search needs)
-    (λ c. search needs)
+    (λ c κs. search needs)
     returns)

@@ -1,14 +1,11 @@
--- `part_of` gives what becomes of a state in a stream that has something of such states, by the stream's number.
-use mathlib.Core.Path.{refl, ap}
-use Prim.Native.Nat.{_<_}
+-- `part_of` gives what becomes of a state in a stream that loses nothing and has something of such states, by the stream's number.
+use mathlib.Core.Path.{_≡_, refl, ap}
 use native.Mathlib.Omega.{arith}
 use Rattle.rules.specs.declared.State.{State}
 use Rattle.rules.specs.Contents.{shared}
-use Rattle.rules.proofs.Splitting.{split-part}
-use Rattle.tables.proofs.Masks.{without-there}
 use Rattle.states.proofs.Steps.{fuller-so, missed-so}
 use Rattle.estimate.specs.Merging.{Words}
-use Rattle.estimate.proofs.StreamParts.{keep-comes, risk-size, part-hits, part-fills, part-keeps, part-loses}
+use Rattle.estimate.proofs.StreamParts.{keep-comes, risk-size, part-hits, part-fills, part-keeps}
 use borrow.Author.Needs.{needs}
 use Rattle.estimate.proofs.merge.part_of.Statement.{statement}
 use Rattle.estimate.proofs.merge.part_of.Tie as tie
@@ -31,36 +28,18 @@ returns-2 c = let b = c .before .before .before .before .before in let a = b .ar
 
 kept-of-requires : tie.Need-kept-of-requires
 unfolding shared
-kept-of-requires c κs = let b = c .before .before .before .before .before .before in let a = b .args in
-    (risk-size (a .ways) (a .x) (a .k) (a .s) (keep-comes _ _ _ _ (b .pre .3) (c .before .before .if3 .taken) .1) (b .pre .1 .2), b .pre .2, b .pre .1 .1)
+kept-of-requires c κs = let b = c .before .before .before .before .before in let a = b .args in
+    let keeps : a .k ≡ 16 = omega (arith, b .pre .4, c .before .before .if2 .left, c .before .before .before .before .if1 .left) in
+    (risk-size (a .ways) (a .x) (a .k) (a .s) (keep-comes _ _ _ _ (b .pre .3) keeps .1) (b .pre .1 .2), b .pre .2, b .pre .1 .1)
 
 returns-3 : tie.Need-returns-3
 unfolding shared
-returns-3 c = let b = c .before .before .before .before .before .before .before .before in let a = b .args in (
-  part-keeps (a .ways) (a .x) (a .k) (a .s) (b .pre .3) _ (b .pre .2) (b .pre .0 .1) (c .before .before .before .before .if3 .taken) _ _ refl (c .before .kept-of .ensures) (missed-so (a .x) (b .pre .0 .0) (a .s) _ (b .pre .1 .0) _ _ (c .missed2 .ensures)),
-  known b,
-)
-
-returns-4 : tie.Need-returns-4
-returns-4 c = let b = c .before .before .before .before .before .before .before in let a = b .args in let p = c .before .split in
-    let low : a .k < 16 = omega (arith, c .before .before .before .before .before .before .if1 .left, c .before .before .before .before .if2 .left, c .before .before .before .if3 .left) in (
-      part-loses (a .ways) (a .x) (a .k) (a .s) (b .pre .3) _ (b .pre .2) (b .pre .0 .1) low _ _
-          (without-there (a .s .mask) (a .k) low _ (c .before .before .without-place .ensures)) (split-part (p .result) (a .s .units) (a .ways) (p .ensures)) (missed-so (a .x) (b .pre .0 .0) (a .s) _ (b .pre .1 .0) _ _ (c .missed3 .ensures)),
+returns-3 c = let b = c .before .before .before .before .before .before .before in let a = b .args in
+    let keeps : a .k ≡ 16 = omega (arith, b .pre .4, c .before .before .before .before .if2 .left, c .before .before .before .before .before .before .if1 .left) in (
+      part-keeps (a .ways) (a .x) (a .k) (a .s) (b .pre .3) _ (b .pre .2) (b .pre .0 .1) keeps _ _ refl (c .before .kept-of .ensures) (missed-so (a .x) (b .pre .0 .0) (a .s) _ (b .pre .1 .0) _ _ (c .missed2 .ensures)),
       known b,
     )
 
 pub part-of-spec : {M : Type 1} → statement M
 part-of-spec =
-    tie.close
-    (tie.spec
-    returns
-    (λ c κs. search needs)
-    (λ c κs. search needs)
-    returns-2
-    kept-of-requires
-    (λ c κs. search needs)
-    returns-3
-    (λ c κs. search needs)
-    (λ c κs. search needs)
-    (λ c κs. search needs)
-    returns-4)
+    tie.close (tie.spec returns (λ c κs. search needs) (λ c κs. search needs) returns-2 kept-of-requires (λ c κs. search needs) returns-3)

@@ -1,97 +1,99 @@
--- `put_run` takes the states of the run one by one. The invariant of its loop: the scratch holds what comes of the states passed, and what comes of the next belongs to the
--- place that the run has come to, or further on.
-use mathlib.Core.Path.{_≡_, refl, ap, _∙_}
-use mathlib.Core.Bool.{true}
-use Prim.Native.Nat.{_+_, _-_, _≤_, _<_}
+-- `put_run` puts the run state by state where nothing is split. Else what comes of it are its shares: they are laid behind all others where all of these have contents below, and put among
+-- them where not.
+use mathlib.Core.Path.{_≡_, sym, _∙_, subst}
+use mathlib.Core.List.{List}
+use Prim.Native.Nat.{ℕ, _+_, _<_}
 use native.Mathlib.Omega.{arith}
 use denote.Ref.{now}
-use lib.ListN.{length, take, drop, length-take}
-use Rattle.rules.specs.Contents.{hits, shared}
-use Rattle.rules.specs.Table.{listing}
+use lib.ListN.{take, drop}
+use lib.Seq.{take-all}
+use Rattle.rules.specs.declared.State.{State}
+use Rattle.rules.specs.Contents.{shared}
+use Rattle.rules.specs.Shape.{Every}
+use Rattle.rules.proofs.Lists.{every-weaker}
 use Rattle.words.specs.Tables.{tableOf}
 use Rattle.words.proofs.Tables.{fits-table}
-use Rattle.estimate.specs.Merging.{comes, fills}
-use Rattle.estimate.specs.Rooms.{InScratch}
-use Rattle.estimate.proofs.Following.{workable-at}
-use Rattle.tables.proofs.Scratch.{scratch-more, scratch-rising, slot-reads, stretch-long}
-use Rattle.estimate.proofs.Runs.{state-has, come, come-none, come-next, come-all, come-rising, come-room, To, to-start, to-passes, to-on}
+use Rattle.tables.proofs.Scratch.{stretch-long}
+use Rattle.estimate.specs.Merging.{part}
+use Rattle.estimate.proofs.Sharing.{whole-stream, run-contents, run-shares, shares-ready, lose-room}
 use borrow.Author.Needs.{needs}
 use Rattle.estimate.proofs.merge.put_run.Statement.{statement}
 use Rattle.estimate.proofs.merge.put_run.Tie as tie
 
-abbrev Inv-loop : tie.InvT-loop
-Inv-loop work₀ n from m x ways k so-far₀ i₀ work so-far i =
-    (i ≤ m) × (length work ≡ length work₀)
-    × InScratch (come ways x k (take m (drop from (tableOf work₀))) (take n (drop 4096 (tableOf work₀))) i) (so-far .states) (tableOf work₀) (tableOf work)
-    × To ways x k (take m (drop from (tableOf work₀))) i (come ways x k (take m (drop from (tableOf work₀))) (take n (drop 4096 (tableOf work₀))) i) (so-far .at)
+times-of-requires : tie.Need-times-of-requires
+unfolding shared
+times-of-requires c κs = let b = c .before .before .before in let a = b .args in let p = b .pre in
+    let R = take (a .m) (drop (a .from + a .start) (tableOf (now (a .work)))) in
+    let Q = take (a .m) (drop (a .start) (now (a .parts))) in
+    let long = stretch-long (a .from + a .start) (a .m) (tableOf (now (a .work))) (omega (arith, p .3, fits-table (now (a .work)) 4096 (omega (arith, p .5)))) in
+    lose-room (a .ways) (a .x) (p .1) (p .0) (a .k) (a .mask) (a .to) R Q (p .11) (omega (arith, long, p .2))
 
-abbrev μ-loop : tie.MeasureT-loop
-μ-loop work₀ n from m x ways k so-far₀ i₀ work so-far i = m - i
-
-loop-holds : tie.Need-loop-holds Inv-loop μ-loop
-loop-holds c = let b = c .before in let a = b .args in
-    let S = take (a .m) (drop (a .from) (tableOf (now (a .work)))) in
-    let X = take (a .n) (drop 4096 (tableOf (now (a .work)))) in (
-      search needs,
-      refl,
-      rw (come-none (a .ways) (a .x) (a .k) S X) (record { count = b .pre .4; table = refl; slots = refl }),
-      rw (come-none (a .ways) (a .x) (a .k) S X) (to-start (a .ways) (a .x) (a .k) S X),
-    )
-
-put-next-requires : tie.Need-put-next-requires Inv-loop μ-loop
-put-next-requires c κs = let b = c .before .before .before .before .before .before in let a = b .args in let p = b .pre in
-    let l = c .before .before .before .before .loop in
-    let S = take (a .m) (drop (a .from) (tableOf (now (a .work)))) in
+put-whole-requires : tie.Need-put-whole-requires
+put-whole-requires c κs = let b = c .before .before .before .before .before .before in let a = b .args in let p = b .pre in
+    let R = take (a .m) (drop (a .from + a .start) (tableOf (now (a .work)))) in
+    let Q = take (a .m) (drop (a .start) (now (a .parts))) in
     let X = take (a .n) (drop 4096 (tableOf (now (a .work)))) in
-    let long = stretch-long (a .from) (a .m) (tableOf (now (a .work))) (omega (arith, fits-table (now (a .work)) 4096 (omega arith))) in
-    let low : l .i < length S = omega (arith, long, c .before .before .before .loop-test .taken) in
-    let read = slot-reads listing _ _ _ _ (l .inv .2) (a .from) (a .m) (l .i) _ (omega (arith, c .before .before .before .loop-test .taken)) (p .2) (c .before .load .ensures) in
-    let next = come-next (a .ways) (a .x) (a .k) S X (l .i) (c .before .load .result) low read in (
+    let to = run-contents (a .ways) (a .x) (p .1) (p .0) (a .k) (a .mask) (a .to) R Q (p .11) in (
       p .0,
-      rw read (workable-at (a .ways) (a .x) S (p .8) (l .i)),
       p .1,
-      rw read (state-has (λ s. comes (hits (a .x) (s .mask)) (fills (a .ways) (a .x) s) (shared (s .mask) (a .x .mates)) (a .k) ≡ true) S (l .i) low (p .9)),
-      omega (arith, l .inv .3 .0, l .inv .2 .count),
-      omega (arith, l .inv .2 .count, come-room (a .ways) (a .x) (a .k) S X (l .i), p .6, l .inv .1, p .3),
-      rw (l .inv .2 .table) (omega (arith, ap length next, come-room (a .ways) (a .x) (a .k) S X (l .i + 1), p .6, l .inv .1, p .3)),
-      scratch-rising listing _ _ _ _ (l .inv .2) (come-rising (a .ways) (a .x) (a .k) S X (l .i) (p .5)),
-      λ w n. rw (l .inv .2 .table) (to-passes (a .ways) (a .x) (a .k) S (p .1) (p .0 .1) (l .i) _ _ (l .inv .3) (c .before .load .result) low read w n (p .7)),
+      p .3,
+      p .5,
+      p .6,
+      p .7,
+      p .8,
+      p .11 .rises,
+      p .11 .workable,
+      p .11 .coming,
+      p .9,
+      every-weaker (λ s. part (a .ways) (a .x) (a .k) s .mask ≡ a .to) (λ s. Every (λ t. t .mask < part (a .ways) (a .x) (a .k) s .mask) (take (a .near) X)) (λ s e. subst (λ (D : ℕ). Every (λ t. t .mask < D) (take (a .near) X)) (sym e) (p .10)) R to,
+      whole-stream (a .ways) _ (a .k) (sym (c .before .before .times-of .ensures) ∙ c .before .if1 .taken),
     )
 
-loop-again : tie.Need-loop-again Inv-loop μ-loop
-loop-again c = let b = c .before .before .before .before .before .before .before .before .before in let a = b .args in let p = b .pre in
-    let l = c .before .before .before .before .before .before .before .loop in
-    let S = take (a .m) (drop (a .from) (tableOf (now (a .work)))) in
+lay-shares-requires : tie.Need-lay-shares-requires
+unfolding shared
+lay-shares-requires c κs = let b = c .before .before .before .before .before .before .before in let a = b .args in let p = b .pre in
     let X = take (a .n) (drop 4096 (tableOf (now (a .work)))) in
-    let long = stretch-long (a .from) (a .m) (tableOf (now (a .work))) (omega (arith, fits-table (now (a .work)) 4096 (omega arith))) in
-    let low : l .i < length S = omega (arith, long, c .before .before .before .before .before .before .loop-test .taken) in
-    let read = slot-reads listing _ _ _ _ (l .inv .2) (a .from) (a .m) (l .i) _ (omega (arith, c .before .before .before .before .before .before .loop-test .taken)) (p .2) (c .before .before .before .before .load .ensures) in
-    let next = come-next (a .ways) (a .x) (a .k) S X (l .i) (c .before .before .before .before .load .result) low read in
-    let put = c .before .before .put-next in (
-      search needs,
-      put .kept .0 ∙ l .inv .1,
-      rw (← next) (scratch-more listing _ _ _ _ (l .inv .2) _ _ _ (put .ensures .0)),
-      rw (← next) (to-on (a .ways) (a .x) (a .k) S (p .1) (p .0 .1) (l .i) _ _ (l .inv .3) _ (l .inv .2 .table) (c .before .before .before .before .load .result) low read _ (put .ensures .1)),
-    )
+    let t = c .before .before .before .times-of in
+    let s = shares-ready (a .ways) (a .x) (p .1) (p .0) (a .k) (a .mask) (a .to) _ _ (p .11) (t .result) (t .ensures) (c .before .before .if1 .left) X 1088 (p .8) in
+    let all = subst (λ (Y : List State). Every (λ t. t .mask < a .to) Y) (take-all (a .near) X (omega (arith, p .6, c .before .if2 .taken))) (p .10) in
+    (p .3, p .4, p .5, p .6, p .7, s .0, s .1, s .2, s .3, all)
 
-returns : tie.Need-returns Inv-loop μ-loop
-returns c = let a = c .before .before .before .args in let l = c .before .loop in
-    let S = take (a .m) (drop (a .from) (tableOf (now (a .work)))) in
-    let past : l .i ≡ a .m = omega arith in
-    rw (← come-all (a .ways) (a .x) (a .k) S (take (a .n) (drop 4096 (tableOf (now (a .work))))) (l .i) (omega (arith, length-take (a .m) (drop (a .from) (tableOf (now (a .work))))))) (l .inv .2)
+returns-2 : tie.Need-returns-2
+unfolding shared
+returns-2 c = let b = c .before .before .before .before .before .before .before .before .before .before in let a = b .args in let p = b .pre in
+    let R = take (a .m) (drop (a .from + a .start) (tableOf (now (a .work)))) in
+    let Q = take (a .m) (drop (a .start) (now (a .parts))) in
+    let X = take (a .n) (drop 4096 (tableOf (now (a .work)))) in
+    let t = c .before .before .before .before .before .before .times-of in
+    rw (run-shares (a .ways) (a .x) (p .1) (p .0) (a .k) (a .mask) (a .to) R Q (p .11) (t .result) (t .ensures) (c .before .before .before .before .before .if1 .left)) (c .before .before .lay-shares .ensures)
+
+put-shares-requires : tie.Need-put-shares-requires
+unfolding shared
+put-shares-requires c κs = let b = c .before .before .before .before .before .before .before in let a = b .args in let p = b .pre in
+    let t = c .before .before .before .times-of in
+    let s = shares-ready (a .ways) (a .x) (p .1) (p .0) (a .k) (a .mask) (a .to) _ _ (p .11) (t .result) (t .ensures) (c .before .before .if1 .left) _ 1088 (p .8) in
+    (p .9, p .3, p .4, p .5, p .6, p .7, s .0, s .1, s .2, s .3, p .10)
+
+returns-3 : tie.Need-returns-3
+unfolding shared
+returns-3 c = let b = c .before .before .before .before .before .before .before .before .before .before in let a = b .args in let p = b .pre in
+    let R = take (a .m) (drop (a .from + a .start) (tableOf (now (a .work)))) in
+    let Q = take (a .m) (drop (a .start) (now (a .parts))) in
+    let t = c .before .before .before .before .before .before .times-of in
+    rw (run-shares (a .ways) (a .x) (p .1) (p .0) (a .k) (a .mask) (a .to) R Q (p .11) (t .result) (t .ensures) (c .before .before .before .before .before .if1 .left)) (c .before .before .put-shares .ensures)
 
 pub put-run-spec : {M : Type 1} → statement M
 put-run-spec =
     tie.close
     (tie.spec
-    Inv-loop
-    μ-loop
-    loop-holds
+    times-of-requires
     (λ c. search needs)
-    (λ c κs. search needs)
-    put-next-requires
+    put-whole-requires
     (λ c. search needs)
     (λ c. search needs)
-    loop-again
+    lay-shares-requires
     (λ c. search needs)
-    returns)
+    returns-2
+    put-shares-requires
+    (λ c. search needs)
+    returns-3)

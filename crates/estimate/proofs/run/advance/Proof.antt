@@ -25,13 +25,13 @@ gather-requires : tie.Need-gather-requires
 gather-requires c κs =
     let a = c .before .before .before .before .before .args in
     let p = c .before .before .before .before .before .pre in (
-      placed (a .cache .ways) (a .cache .sets) (now (a .tracked)) (p .ranges .few-ways) _ (aims (c .before .before)) (p .ranges .few-tracked),
+      placed (a .cache .ways) (a .cache .sets) (now (a .tracked)) (p .ranges .few-ways) (p .ranges .few-tracked) _ (aims (c .before .before)),
       p .ranges .few-ways,
       p .count,
       omega (arith, p .slot, p .count),
       p .room,
       p .aside,
-      workable (a .cache .ways) (a .cache .sets) (now (a .tracked)) (p .ranges .few-ways) _ (aims (c .before .before)) (a .limit) 4095 _ (omega arith) (p .table),
+      workable (a .cache .ways) (a .cache .sets) (now (a .tracked)) (p .ranges .few-ways) (p .ranges .few-tracked) _ (aims (c .before .before)) (a .limit) 4095 _ (omega arith) (p .table),
       p .table .rises,
     )
 

@@ -4,10 +4,10 @@ use Rattle.row_questions.proofs.cells.last_of.Statement.{statement}
 use Rattle.row_questions.proofs.cells.last_of.Tie as tie
 
 returns : tie.Need-returns
-returns c = rw (eq-eqb _ _ (c .if1 .taken))
+returns c = rw (eq-eqb _ 0 (c .if1 .taken))
 
 returns-2 : tie.Need-returns-2
-returns-2 c = rw (ne-eqb _ _ (c .if1 .left))
+returns-2 c = rw (ne-eqb _ 0 (c .if1 .left))
 
 pub last-of-spec : {M : Type 1} → statement M
 last-of-spec = tie.close (tie.spec returns returns-2)

@@ -3,7 +3,7 @@ use native.Mathlib.Nat.{le-refl}
 use denote.Ref.{now}
 use borrow.Author.Needs.{needs}
 use Rattle.rules.specs.Contents.{with}
-use Rattle.tight.proofs.Raising.{live-part}
+use Rattle.tight_rows.proofs.Raising.{live-part}
 use Rattle.tight.proofs.RowsMoved.{rest-moved-on}
 use Rattle.tight.proofs.arrivals.move_rest.Statement.{statement}
 use Rattle.tight.proofs.arrivals.move_rest.Tie as tie

@@ -6,7 +6,7 @@ use denote.Ref.{now}
 use borrow.Author.Needs.{needs}
 use Rattle.rules.specs.Contents.{shared, with}
 use Rattle.tables.proofs.Masks.{has-listed}
-use Rattle.tight.proofs.Raising.{live-part}
+use Rattle.tight_rows.proofs.Raising.{live-part}
 use Rattle.tight.proofs.Moving.{hit-came, safe-came, row-moved}
 use Rattle.tight.proofs.moves.move_contents.Statement.{statement}
 use Rattle.tight.proofs.moves.move_contents.Tie as tie

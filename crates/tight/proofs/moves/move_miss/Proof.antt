@@ -7,7 +7,7 @@ use denote.Ref.{now}
 use borrow.Author.Needs.{needs}
 use Rattle.rules.specs.Contents.{shared, with}
 use Rattle.tight.specs.Moving.{choosing}
-use Rattle.tight.proofs.Raising.{live-part}
+use Rattle.tight_rows.proofs.Raising.{live-part}
 use Rattle.tight.proofs.Moving.{lost-first, second-ready, third-ready, third-came}
 use Rattle.tight.proofs.moves.move_miss.Statement.{statement}
 use Rattle.tight.proofs.moves.move_miss.Tie as tie

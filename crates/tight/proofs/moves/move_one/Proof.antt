@@ -6,7 +6,7 @@ use denote.Ref.{now}
 use borrow.Author.Needs.{needs}
 use Rattle.rules.specs.Contents.{shared, with}
 use Rattle.tables.proofs.Masks.{has-there, without-there}
-use Rattle.tight.proofs.Raising.{live-part}
+use Rattle.tight_rows.proofs.Raising.{live-part}
 use Rattle.tight.proofs.Moving.{one-came, none-came}
 use Rattle.tight.proofs.moves.move_one.Statement.{statement}
 use Rattle.tight.proofs.moves.move_one.Tie as tie

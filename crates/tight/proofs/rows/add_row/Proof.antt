@@ -5,9 +5,9 @@ use native.Mathlib.Omega.{arith}
 use denote.Ref.{now}
 use lib.ListN.{length}
 use borrow.Author.Needs.{needs}
-use Rattle.tight.specs.Rows.{withRow}
-use Rattle.tight.proofs.Writing.{Written, none-written, all-written}
-use Rattle.tight.proofs.Adding.{sum-fits, part-fits, row-more}
+use Rattle.tight_rows.specs.Rows.{withRow}
+use Rattle.tight_rows.proofs.Writing.{Written, none-written, all-written}
+use Rattle.tight_rows.proofs.Adding.{sum-fits, part-fits, row-more}
 use Rattle.tight.proofs.rows.add_row.Statement.{statement}
 use Rattle.tight.proofs.rows.add_row.Tie as tie
 

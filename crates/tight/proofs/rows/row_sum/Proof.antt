@@ -4,9 +4,9 @@ use Prim.Native.Nat.{_+_, _-_, _≤_}
 use native.Mathlib.Omega.{arith}
 use denote.Ref.{now}
 use borrow.Author.Needs.{needs}
-use Rattle.tight.specs.Room.{wordsOf}
-use Rattle.tight.specs.Rows.{rowSum}
-use Rattle.tight.proofs.Adding.{sum-next, sum-fits-so-far}
+use Rattle.tight_rows.specs.Room.{wordsOf}
+use Rattle.tight_rows.specs.Rows.{rowSum}
+use Rattle.tight_rows.proofs.Adding.{sum-next, sum-fits-so-far}
 use Rattle.tight.proofs.rows.row_sum.Statement.{statement}
 use Rattle.tight.proofs.rows.row_sum.Tie as tie
 

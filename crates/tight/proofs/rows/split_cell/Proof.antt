@@ -3,7 +3,7 @@ use native.Mathlib.Omega.{arith}
 use denote.Ref.{now}
 use lib.ListN.{length-set}
 use borrow.Author.Needs.{needs}
-use Rattle.tight.proofs.Adding.{split-none, split-two}
+use Rattle.tight_rows.proofs.Adding.{split-none, split-two}
 use Rattle.tight.proofs.rows.split_cell.Statement.{statement}
 use Rattle.tight.proofs.rows.split_cell.Tie as tie
 

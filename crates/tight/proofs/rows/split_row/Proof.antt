@@ -5,9 +5,9 @@ use native.Mathlib.Omega.{arith}
 use denote.Ref.{now}
 use lib.ListN.{length}
 use borrow.Author.Needs.{needs}
-use Rattle.tight.specs.Room.{Leaves}
-use Rattle.tight.specs.Rows.{splitTo}
-use Rattle.tight.proofs.Adding.{left-fits, two-places, split-more, split-nothing}
+use Rattle.tight_rows.specs.Room.{Leaves}
+use Rattle.tight_rows.specs.Rows.{splitTo}
+use Rattle.tight_rows.proofs.Adding.{left-fits, two-places, split-more, split-nothing}
 use Rattle.tight.proofs.rows.split_row.Statement.{statement}
 use Rattle.tight.proofs.rows.split_row.Tie as tie
 

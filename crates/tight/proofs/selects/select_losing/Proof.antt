@@ -6,7 +6,7 @@ use denote.Ref.{now}
 use lib.ListN.{length}
 use borrow.Author.Needs.{needs}
 use Rattle.tight.specs.Selecting.{chosen, losesAt}
-use Rattle.tight.proofs.Writing.{Written, none-written, all-written}
+use Rattle.tight_rows.proofs.Writing.{Written, none-written, all-written}
 use Rattle.tight.proofs.CellsChosen.{losing-more}
 use Rattle.tight.proofs.selects.select_losing.Statement.{statement}
 use Rattle.tight.proofs.selects.select_losing.Tie as tie

@@ -6,7 +6,7 @@ use denote.Ref.{now}
 use lib.ListN.{length}
 use borrow.Author.Needs.{needs}
 use Rattle.tight.specs.Selecting.{ones}
-use Rattle.tight.proofs.Writing.{Written, none-written, all-written}
+use Rattle.tight_rows.proofs.Writing.{Written, none-written, all-written}
 use Rattle.tight.proofs.CellsChosen.{others-more}
 use Rattle.tight.proofs.selects.select_others.Statement.{statement}
 use Rattle.tight.proofs.selects.select_others.Tie as tie

@@ -17,13 +17,6 @@ select-others-requires c κs =
     let p = one .before .before .before .pre in
     (p .first, omega (arith, p .second, p .third, one .select-losing .ensures .long))
 
-fill-row-requires : tie.Need-fill-row-requires
-fill-row-requires c κs =
-    let two = c .before .before .before in
-    let one = two .before .before .before .before in
-    let p = one .before .before .before .pre in
-    omega (arith, p .third, one .select-losing .ensures .long, two .select-others .ensures .long)
-
 returns : tie.Need-returns
 returns c =
     let three = c .before .before in
@@ -35,4 +28,4 @@ returns c =
     (three .fill-row .ensures)
 
 pub select-rows-spec : {M : Type 1} → statement M
-select-rows-spec = tie.close (tie.spec select-losing-requires select-others-requires fill-row-requires (λ c. search needs) returns)
+select-rows-spec = tie.close (tie.spec select-losing-requires select-others-requires (λ c κs. search needs) (λ c. search needs) returns)

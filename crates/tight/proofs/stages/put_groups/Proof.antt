@@ -21,14 +21,6 @@ loop-holds c =
     let a = c .before .args in
     (search needs, refl, grouped-start (a .ways) (a .cells) (a .stage) (a .x) (a .fronts) (a .backs) (a .width) (now (a .work)) (c .before .pre .3))
 
-filled-at-requires : tie.Need-filled-at-requires Inv-loop μ-loop
-filled-at-requires c κs =
-    let l = c .before .before in
-    let p = l .before .before .pre .3 in (
-      omega (arith, p .front, p .inside, c .before .loop-test .taken, l .loop .inv .1),
-      omega (arith, p .back, p .inside, c .before .loop-test .taken, l .loop .inv .1),
-    )
-
 put-group-requires : tie.Need-put-group-requires Inv-loop μ-loop
 put-group-requires c κs =
     let l = c .before .before .before .before .before in
@@ -64,7 +56,7 @@ put-groups-spec =
     loop-holds
     (λ c. let p = c .before .before .before .before .pre .3 in omega (arith, p .front, p .inside, c .before .loop-test .taken))
     (λ c. let p = c .before .before .before .before .pre .3 in omega (arith, p .back, p .inside, c .before .loop-test .taken))
-    filled-at-requires
+    (λ c κs. search needs)
     (λ c. let p = c .before .before .before .before .before .before .pre .3 in omega (arith, p .narrow, p .inside, c .before .before .before .loop-test .taken))
     (λ c. let p = c .before .before .before .before .before .before .pre .3 in omega (arith, p .inside))
     (λ c κs. let p = c .before .before .before .before .before .before .pre in (p .0, p .1, p .2))

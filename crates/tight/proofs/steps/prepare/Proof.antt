@@ -1,7 +1,7 @@
 -- `prepare` chooses cells, adds up the stage's units, clears the row for what is left over, and splits rows.
 use denote.Ref.{now}
 use borrow.Author.Needs.{needs}
-use Rattle.tight.proofs.Passing.{may-select, may-count, columns-fit, rest-there, may-split, prepared}
+use Rattle.tight.proofs.Passing.{may-select, may-count, columns-fit, may-split, prepared}
 use Rattle.tight.proofs.steps.prepare.Statement.{statement}
 use Rattle.tight.proofs.steps.prepare.Tie as tie
 
@@ -20,14 +20,6 @@ stage-units-requires c κs =
       may-count (a .ways) (a .x) (a .s) (a .fronts) (a .backs) (a .stage) (a .cells) (now (a .work)) (b .pre) _ (chosen .select-rows .ensures),
       columns-fit (a .ways) (a .x) (a .s) (a .fronts) (a .backs) (a .stage) (a .cells) (now (a .work)) (b .pre) _ (chosen .select-rows .ensures),
     )
-
-clear-row-requires : tie.Need-clear-row-requires
-clear-row-requires c κs =
-    let counted = c .before .before .before in
-    let chosen = counted .before .before .before .before in
-    let b = chosen .before .before .before .before in
-    let a = b .args in
-    rest-there (a .ways) (a .x) (a .s) (a .fronts) (a .backs) (a .stage) (a .cells) (now (a .work)) (b .pre) _ (chosen .select-rows .ensures) _ (counted .stage-units .ensures)
 
 split-rows-requires : tie.Need-split-rows-requires
 split-rows-requires c κs =
@@ -61,7 +53,7 @@ prepare-spec =
     (λ c κs. search needs)
     select-rows-requires
     stage-units-requires
-    clear-row-requires
+    (λ c κs. search needs)
     split-rows-requires
     (λ c. search needs)
     returns)

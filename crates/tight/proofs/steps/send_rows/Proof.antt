@@ -2,7 +2,7 @@
 use native.Mathlib.Omega.{arith}
 use denote.Ref.{now}
 use borrow.Author.Needs.{needs}
-use Rattle.tight.proofs.Delivered.{slot-fits, from-fits, may-move, may-head, may-group, delivered}
+use Rattle.tight.proofs.Delivered.{slot-fits, from-fits, may-open, may-move, may-head, may-group, delivered}
 use Rattle.tight.proofs.steps.send_rows.Statement.{statement}
 use Rattle.tight.proofs.steps.send_rows.Tie as tie
 
@@ -28,7 +28,7 @@ move-all-requires c κs =
     let opened = received .before .before .before in
     let b = opened .before .before .before .before in
     let a = b .args in
-    may-move (a .ways) (a .x) (a .live) (a .s) (a .o) (a .from) (a .stage) (now (a .work)) (b .pre) _ _ (opened .open-rows .ensures) _ (received .receiver-of .ensures)
+    may-move (a .ways) (a .x) (a .live) (a .s) (a .o) (a .from) (a .stage) (now (a .work)) (b .pre) _ _ (opened .open-rows .ensures .does (may-open (a .ways) (a .x) (a .live) (a .s) (a .o) (a .from) (a .stage) (now (a .work)) (b .pre))) _ (received .receiver-of .ensures)
 
 send-header-requires : tie.Need-send-header-requires
 send-header-requires c κs =
@@ -37,7 +37,7 @@ send-header-requires c κs =
     let opened = received .before .before .before in
     let b = opened .before .before .before .before in
     let a = b .args in
-    may-head (a .ways) (a .x) (a .live) (a .s) (a .o) (a .from) (a .stage) (now (a .work)) (b .pre) _ _ (opened .open-rows .ensures) _ (received .receiver-of .ensures) _ (moved .move-all .ensures)
+    may-head (a .ways) (a .x) (a .live) (a .s) (a .o) (a .from) (a .stage) (now (a .work)) (b .pre) _ _ (opened .open-rows .ensures .does (may-open (a .ways) (a .x) (a .live) (a .s) (a .o) (a .from) (a .stage) (now (a .work)) (b .pre))) _ (received .receiver-of .ensures) _ (moved .move-all .ensures)
 
 add-put-groups : tie.Need-add-put-groups
 add-put-groups c =
@@ -57,7 +57,7 @@ put-groups-requires c κs =
       b .pre .placed,
       b .pre .sets,
       b .pre .few,
-      may-group (a .ways) (a .x) (a .live) (a .s) (a .o) (a .from) (a .stage) (now (a .work)) (b .pre) _ _ (opened .open-rows .ensures) _ (received .receiver-of .ensures) _ (moved .move-all .ensures) _
+      may-group (a .ways) (a .x) (a .live) (a .s) (a .o) (a .from) (a .stage) (now (a .work)) (b .pre) _ _ (opened .open-rows .ensures .does (may-open (a .ways) (a .x) (a .live) (a .s) (a .o) (a .from) (a .stage) (now (a .work)) (b .pre))) _ (received .receiver-of .ensures) _ (moved .move-all .ensures) _
           (headed .send-header .ensures),
     )
 
@@ -70,7 +70,7 @@ returns c =
     let opened = received .before .before .before in
     let b = opened .before .before .before .before in
     let a = b .args in
-    delivered (a .ways) (a .x) (a .live) (a .s) (a .o) (a .from) (a .stage) (now (a .work)) (b .pre) _ _ (opened .open-rows .ensures) _ (received .receiver-of .ensures) _ (moved .move-all .ensures) _
+    delivered (a .ways) (a .x) (a .live) (a .s) (a .o) (a .from) (a .stage) (now (a .work)) (b .pre) _ _ (opened .open-rows .ensures .does (may-open (a .ways) (a .x) (a .live) (a .s) (a .o) (a .from) (a .stage) (now (a .work)) (b .pre))) _ (received .receiver-of .ensures) _ (moved .move-all .ensures) _
     (headed .send-header .ensures) _ (done .put-groups .ensures)
 
 pub send-rows-spec : {M : Type 1} → statement M
@@ -80,7 +80,7 @@ send-rows-spec =
     add-fronts
     mul-fronts
     add-fronts-2
-    (λ c κs. let p = c .before .before .before .pre in (p .there, p .fewRows))
+    (λ c κs. search needs)
     receiver-of-requires
     move-all-requires
     send-header-requires

@@ -1,22 +1,14 @@
 -- `sum_contents` adds all units at one mask, or goes on to a miss.
 use mathlib.Core.Path.{_≡_, refl, sym, _∙_}
-use native.Mathlib.Omega.{arith}
 use denote.Ref.{now}
 use borrow.Author.Needs.{needs}
-use Rattle.rules.specs.Contents.{shared}
+use Rattle.rules.specs.Contents.{with, shared}
 use Rattle.tables.proofs.Masks.{has-listed}
-use Rattle.tight.proofs.Raising.{live-part}
+use Rattle.tight_rows.proofs.Raising.{live-part}
+use Rattle.tight_rows.proofs.Totals.{more-plain}
 use Rattle.tight.proofs.Summing.{all-fits, without-hit, hit-summed, safe-summed, row-summed}
 use Rattle.tight.proofs.sums.sum_contents.Statement.{statement}
 use Rattle.tight.proofs.sums.sum_contents.Tie as tie
-
-add-units-requires : tie.Need-add-units-requires
-unfolding shared
-add-units-requires c κs =
-    let b = c .before .before .before .before in
-    let a = b .args in
-    let low = live-part (a .mask) (a .live) _ refl in
-    (omega (arith, b .pre .room, low), all-fits (a .ways) (a .x) (a .plan) (a .live) (a .mask) (a .all) (a .part) (a .stay) (now (a .work)) (b .pre) _ low)
 
 returns : tie.Need-returns
 unfolding shared
@@ -24,16 +16,10 @@ returns c =
     let h = c .before .before .before .before in
     let b = h .before .before .before in
     let a = b .args in
-    rw (c .before .before .add-units .ensures)
+    let put = more-plain _ _ _ _ (c .before .before .add-units .ensures) (all-fits (a .ways) (a .x) (a .plan) (a .live) (a .mask) (a .all) (a .part) (a .stay) (now (a .work)) (b .pre) _ (live-part (a .mask) (a .live) _ refl)) in
+    rw put
     (hit-summed (a .ways) (a .x) (a .plan) (a .live) (a .mask) (a .all) (a .part) (a .stay) (now (a .work)) (b .pre)
     (sym (has-listed (a .mask) (a .x .place) (b .pre .placed) _ _ (h .before .has-block .ensures)) ∙ h .if1 .taken) _ refl)
-
-add-units-requires-2 : tie.Need-add-units-requires-2
-add-units-requires-2 c κs =
-    let b = c .before .before .before .before .before .before .before in
-    let a = b .args in
-    let low = live-part _ _ _ (c .before .comes-to .ensures) in
-    (omega (arith, b .pre .room, low), all-fits (a .ways) (a .x) (a .plan) (a .live) (a .mask) (a .all) (a .part) (a .stay) (now (a .work)) (b .pre) _ low)
 
 returns-2 : tie.Need-returns-2
 unfolding shared
@@ -42,7 +28,8 @@ returns-2 c =
     let h = e .before .before .before in
     let b = h .before .before .before in
     let a = b .args in
-    rw (c .before .before .add-units2 .ensures)
+    let put = more-plain _ _ _ _ (c .before .before .add-units2 .ensures) (all-fits (a .ways) (a .x) (a .plan) (a .live) (a .mask) (a .all) (a .part) (a .stay) (now (a .work)) (b .pre) _ (live-part (with (a .mask) (a .x .place)) (a .live) _ (e .comes-to .ensures))) in
+    rw put
     (safe-summed (a .ways) (a .x) (a .plan) (a .live) (a .mask) (a .all) (a .part) (a .stay) (now (a .work)) (b .pre)
     (sym (has-listed (a .mask) (a .x .place) (b .pre .placed) _ _ (h .before .has-block .ensures)) ∙ h .if1 .left) (e .before .if2 .taken) _ (e .comes-to .ensures))
 
@@ -67,11 +54,11 @@ sum-contents-spec =
     tie.close
     (tie.spec
     (λ c κs. search needs)
-    add-units-requires
+    (λ c κs. search needs)
     (λ c. search needs)
     returns
     (λ c κs. c .before .before .before .before .before .pre .placed)
-    add-units-requires-2
+    (λ c κs. search needs)
     (λ c. search needs)
     returns-2
     sum-miss-requires

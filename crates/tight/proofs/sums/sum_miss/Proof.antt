@@ -5,7 +5,8 @@ use native.Mathlib.Omega.{arith}
 use denote.Ref.{now}
 use borrow.Author.Needs.{needs}
 use Rattle.rules.specs.Contents.{with, shared}
-use Rattle.tight.proofs.Raising.{live-part}
+use Rattle.tight_rows.proofs.Raising.{live-part}
+use Rattle.tight_rows.proofs.Totals.{more-plain}
 use Rattle.tight.proofs.Summing.{kept-part-fits, kept-fits, lost-all-fits, kept-sum-fits, miss-summed}
 use Rattle.tight.proofs.sums.sum_miss.Statement.{statement}
 use Rattle.tight.proofs.sums.sum_miss.Tie as tie
@@ -34,18 +35,6 @@ sum-lost-requires c κs =
     let a = b .args in
     (b .pre .placed, b .pre .room, lost-all-fits (a .ways) (a .x) (a .plan) (a .live) (a .mask) 0 (a .part) (a .stay) (now (a .work)) (b .pre))
 
-add-units-requires : tie.Need-add-units-requires
-unfolding shared
-add-units-requires c κs =
-    let m = c .before .before .before in
-    let e = m .before .before in
-    let b = e .before .before .before .before in
-    let a = b .args in
-    let low = live-part (with (a .mask) (a .x .place)) (a .live) _ (e .comes-to .ensures) in (
-      omega (arith, m .sum-lost .ensures .long, b .pre .room, low),
-      rw (e .before .size-of .ensures) (kept-sum-fits (a .ways) (a .x) (a .plan) (a .live) (a .mask) 0 (a .part) (a .stay) (now (a .work)) (b .pre) _ (m .sum-lost .ensures) _ low),
-    )
-
 returns : tie.Need-returns
 unfolding shared
 returns c =
@@ -53,7 +42,11 @@ returns c =
     let e = m .before .before in
     let b = e .before .before .before .before in
     let a = b .args in
-    rw (c .before .before .add-units .ensures)
+    let low = live-part (with (a .mask) (a .x .place)) (a .live) _ (e .comes-to .ensures) in
+    let put =
+    more-plain _ _ _ _ (c .before .before .add-units .ensures)
+    (rw (e .before .size-of .ensures) (kept-sum-fits (a .ways) (a .x) (a .plan) (a .live) (a .mask) 0 (a .part) (a .stay) (now (a .work)) (b .pre) _ (m .sum-lost .ensures) _ low)) in
+    rw put
     (miss-summed (a .ways) (a .x) (a .plan) (a .live) (a .mask) 0 (a .part) (a .stay) (now (a .work)) (b .pre) _ (m .sum-lost .ensures) _ _ (e .comes-to .ensures)
     (ap (λ (n : ℕ). (a .ways - n) * a .part + a .stay) (e .before .size-of .ensures)))
 
@@ -67,6 +60,6 @@ sum-miss-spec =
     add-kept
     (λ c κs. c .before .before .before .pre .placed)
     sum-lost-requires
-    add-units-requires
+    (λ c κs. search needs)
     (λ c. search needs)
     returns)

@@ -1,21 +1,15 @@
 -- `sum_one` adds the units at one mask, or none where the block is none of those that can be lost.
 use mathlib.Core.Path.{sym, ap, _∙_}
 use Prim.Native.Nat.{ℕ}
-use native.Mathlib.Omega.{arith}
 use denote.Ref.{now}
 use borrow.Author.Needs.{needs}
 use Rattle.rules.specs.Contents.{shared, with}
 use Rattle.tables.proofs.Masks.{has-there, without-there}
-use Rattle.tight.proofs.Raising.{live-part}
+use Rattle.tight_rows.proofs.Raising.{live-part}
+use Rattle.tight_rows.proofs.Totals.{more-plain}
 use Rattle.tight.proofs.Summing.{one-lost, none-lost}
 use Rattle.tight.proofs.sums.sum_one.Statement.{statement}
 use Rattle.tight.proofs.sums.sum_one.Tie as tie
-
-add-units-requires : tie.Need-add-units-requires
-add-units-requires c κs =
-    let b = c .before .before .before .before .before .before in
-    let low = live-part _ _ _ (c .before .comes-to .ensures) in
-    (omega (arith, b .pre .2, low), b .pre .3 _ low)
 
 returns : tie.Need-returns
 returns c =
@@ -23,7 +17,8 @@ returns c =
     let h = m .before .before in
     let b = h .before .before .before in
     let a = b .args in
-    rw (c .before .before .add-units .ensures)
+    let put = more-plain _ _ _ _ (c .before .before .add-units .ensures) (b .pre .3 _ (live-part _ _ _ (m .comes-to .ensures))) in
+    rw put
     (one-lost (a .plan) (a .mask) (a .risk) (a .x) (a .live) (a .units) (a .at) _ (now (a .work)) (sym (has-there _ _ (b .pre .1) _ (h .before .has-place .ensures)) ∙ h .if1 .taken)
     (m .comes-to .ensures ∙ ap (λ (C : ℕ). shared (with C (a .x .place)) (a .live)) (without-there _ _ (b .pre .1) _ (m .before .without-place .ensures))) (b .pre .2))
 
@@ -40,7 +35,7 @@ sum-one-spec =
     (λ c κs. search needs)
     (λ c κs. search needs)
     (λ c κs. search needs)
-    add-units-requires
+    (λ c κs. search needs)
     (λ c. search needs)
     returns
     returns-2)

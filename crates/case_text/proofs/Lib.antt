@@ -1,0 +1,2 @@
+-- Rooms looked through
+pub mod Walked

@@ -1,0 +1,4 @@
+-- What a head says
+pub mod Head
+-- Heads in order
+pub mod Row
