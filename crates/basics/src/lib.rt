@@ -1,4 +1,6 @@
 // The larger of two numbers, and a room of numbers cleared.
+#![tactic(auto)]
+
 ghost use Rattle.std.specs.Prelude.{◌≡◌, max, length, replicate};
 
 pub fn larger(a: u64, b: u64) -> u64

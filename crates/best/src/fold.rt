@@ -16,7 +16,7 @@ use rules::{BestState, Pair};
 use tables::size_of;
 
 // How near two states are: the blocks that they share, and how far apart they are in misses and in hits.
-#[derive(Drop)]
+#[derive(Clone, Copy)]
 pub(crate) struct Nearness {
     pub shares: u64,
     pub misses: u64,

@@ -14,7 +14,7 @@ use rules::{BestState, Hits, Misses, Units};
 use tables::smaller;
 
 // What is first of a table that is walked: its place, and the state there with the units that are left of it.
-#[derive(Drop)]
+#[derive(Clone, Copy)]
 pub(crate) struct Front {
     pub at: usize,
     pub state: BestState,

@@ -1,5 +1,7 @@
 // The best case: from one access to a whole graph, in memory that the caller lends. The code is that of `estimate` for the other kind of state, with hits
 // beside misses and no set-aside count.
+#![tactic(auto)]
+
 ghost use Rattle.std.specs.Prelude.{◌≡◌};
 ghost use Rattle.best.specs.Call.{best_analysed};
 

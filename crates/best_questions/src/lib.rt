@@ -1,5 +1,7 @@
 // Questions put to a finished table of the best case: document 02, request 10/13. Each is asked of the first `states` states of a table in words, or of
 // all that there are: what the best case's call left in its result room.
+#![tactic(auto)]
+
 ghost use Rattle.std.specs.Prelude.{◌≡◌, take};
 ghost use Rattle.rules.specs.BestQuestions.{miss_spread_answer, hit_spread_answer};
 ghost use Rattle.words.specs.BestTables.{table_of};

@@ -1,4 +1,6 @@
 // What a graph call leaves: its definitions, laws about them, and the one refusal that changes a room. The calls are those of `estimate`.
+#![tactic(auto)]
+
 ghost use Rattle.std.specs.Prelude.{◌≡◌, length, replicate};
 ghost use Rattle.rules.specs.declared.Outcome.TheVariants.{Refused};
 ghost use Rattle.rules.specs.declared.Refusal.TheVariants.{Pairing};

@@ -2,7 +2,7 @@
 use case_text::{MOST, plus};
 
 // The cycles of a hit, and of a miss.
-#[derive(Drop)]
+#[derive(Clone, Copy)]
 pub(crate) struct Core {
     pub hit: u64,
     pub miss: u64,

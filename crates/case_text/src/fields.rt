@@ -41,7 +41,7 @@ pub fn next_line(text: &[u8], from: usize) -> usize
 
 // What was read of a line: which field is next, where the next number belongs, the digits of the one that is being read, the number
 // that they repeat, and the bytes before them with how many bits are behind the next one.
-#[derive(Drop)]
+#[derive(Clone, Copy)]
 struct Scan {
     field: usize,
     end: usize,

@@ -1,5 +1,7 @@
 // What the programs `worked` and `worked_apart` share: their cases are lines of a text (`fields`), what a call answered becomes numbers (`said`) and what it left in its rooms is
 // compared word by word (`rooms`), every comparison is counted (`report`), and answers are written (`shown`).
+#![tactic(auto)]
+
 ghost use Rattle.std.specs.Prelude.{◌≡◌, ◌-◌};
 ghost use Rattle.case_text.specs.Reports.{capped};
 

@@ -5,7 +5,7 @@ ghost use Rattle.case_text.specs.Reports.{compared_in};
 use crate::plus;
 use crate::shown::say;
 
-#[derive(Drop)]
+#[derive(Clone, Copy)]
 pub struct Report {
     pub comparisons: u64,
     pub failed: u64,

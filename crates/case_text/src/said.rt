@@ -2,7 +2,7 @@
 use rules::{Amount, Count, Refusal, Time};
 
 // A refusal's number and 0, or 0 and the value.
-#[derive(Drop)]
+#[derive(Clone, Copy)]
 pub struct Said {
     pub refusal: u64,
     pub value: u64,

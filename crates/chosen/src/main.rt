@@ -1,5 +1,7 @@
 // The program for a chosen cache: a text that begins with set count, revision and start on standard input, and its curve on standard output; with the word `cycles` its
 // curves in cycles. All that it does itself is to move bytes; what they are is `text`'s.
+#![tactic(auto)]
+
 use front::write_front;
 use text::{curve_of_chosen_text, cycles_of_chosen_text};
 use writing::Written;

@@ -1,4 +1,6 @@
 // The cores in service: their hit cycles and their miss cycles.
+#![tactic(auto)]
+
 ghost use Rattle.std.specs.Prelude.{◌≡◌};
 ghost use Rattle.rules.specs.Cycles.{core_at};
 

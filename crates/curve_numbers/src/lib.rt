@@ -1,4 +1,6 @@
 // Numbers in the curve's order: where their parts end, and the choice of a cache that may stand before them.
+#![tactic(auto)]
+
 ghost use Rattle.std.specs.Prelude.{◌≡◌};
 ghost use Rattle.curve_numbers.specs.Places.{end_of};
 ghost use Rattle.curve_numbers.specs.Choices.{start_of, chosen_in};
@@ -6,7 +8,7 @@ ghost use Rattle.curve_numbers.specs.Choices.{start_of, chosen_in};
 use rules::Start;
 
 // What is chosen of a cache beside its ways: its sets, its revision, and how it is found.
-#[derive(Drop)]
+#[derive(Clone, Copy)]
 pub struct Choice {
     pub sets: u32,
     pub revision: u32,
@@ -14,7 +16,7 @@ pub struct Choice {
 }
 
 // What numbers begin with: a choice, or none that is well formed.
-#[derive(Drop)]
+#[derive(Clone, Copy)]
 pub enum Chosen {
     Cache(Choice),
     Nothing,

@@ -1,4 +1,6 @@
 // What is decided before a question in cycles is worked: document 02, request 9/13.
+#![tactic(auto)]
+
 ghost use Rattle.std.specs.Prelude.{◌≡◌};
 ghost use Rattle.rules.specs.Answers.{first};
 ghost use Rattle.rules.specs.Cycles.{cycle_reasons};

@@ -1,4 +1,6 @@
 // The program for curves in cycles: standard input to standard output. All that it does itself is to move bytes; what they are is `text`'s.
+#![tactic(auto)]
+
 use front::write_front;
 use text::cycles_of_text;
 use writing::Written;

@@ -3,6 +3,8 @@
 // tight and exact, as `examined` says. `enumerate_graphs` does the same for small graphs.
 //
 // It shares no code with the graph call, the longest path and the questions.
+#![tactic(auto)]
+
 use crate::straight::all_straight;
 use examined::report::{nothing_yet, say_all};
 

@@ -2,6 +2,8 @@
 // held to the tables of the graph call and of the best case, as `examined` says; and again for tables of which the first join is by a random pairing that is accepted.
 //
 // It shares no code with the graph call, the longest path and the questions.
+#![tactic(auto)]
+
 use crate::graphs::all_graphs;
 use examined::report::{nothing_yet, say_all};
 

@@ -26,7 +26,7 @@ use states::filled::start_of;
 use tables::next_edge;
 
 // The set-aside count over the nodes so far, and whether every pairing handed in for their joins is accepted.
-#[derive(Drop)]
+#[derive(Clone, Copy)]
 pub(crate) struct Done {
     pub aside: Units,
     pub fits: bool,

@@ -16,7 +16,7 @@ use rules::Units;
 use states::meet;
 
 // How many states the scratch has after a join, and whether what was handed in for it is accepted.
-#[derive(Drop)]
+#[derive(Clone, Copy)]
 pub(crate) struct Paired {
     pub states: usize,
     pub fits: bool,

@@ -1,4 +1,6 @@
 // The estimate: from one access to a whole graph, in memory that the caller lends.
+#![tactic(auto)]
+
 ghost use Rattle.std.specs.Prelude.{◌≡◌};
 ghost use Rattle.rules.specs.declared.Verdict.TheVariants.{Accepted};
 ghost use Rattle.rules.specs.Refusals.{verdict};

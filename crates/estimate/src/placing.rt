@@ -123,7 +123,7 @@ pub(crate) fn put(words: &mut [u64], n: usize, s: State) -> usize
 }
 
 // How many states a table has when a state has come in, and the place behind that one.
-#[derive(Drop)]
+#[derive(Clone, Copy)]
 pub(crate) struct Reached {
     pub states: usize,
     pub at: usize,

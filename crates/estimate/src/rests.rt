@@ -23,7 +23,7 @@ use states::step::held_of;
 use tables::with_block;
 
 // The states in the scratch, the place of the one that came last, and how much is left over so far.
-#[derive(Drop)]
+#[derive(Clone, Copy)]
 pub(crate) struct Rests {
     pub states: usize,
     pub at: usize,

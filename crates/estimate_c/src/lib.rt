@@ -1,5 +1,7 @@
 // The estimate for C: what include/estimate.h declares. Each function calls the one in Rattle that answers (`estimate_graph` calls `analyse`, the questions call
 // those of a table in words or of a lent row), and gives the answer as numbers.
+#![tactic(auto)]
+
 ghost use Rattle.std.specs.Prelude.{◌≡◌, take};
 ghost use Rattle.rules.specs.Cycles.{above_cycles_answer, cycle_budget_answer};
 ghost use Rattle.rules.specs.Input.{input_of};

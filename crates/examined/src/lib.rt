@@ -13,6 +13,8 @@
 //   number are at most the share of the sequences with more, and the same of hits; it totals 2^48 too, and is refused where it has to be.
 //
 // From a used cache only the share of the sequences with more misses, or cycles, is held to the units: that is all that is promised then.
+#![tactic(auto)]
+
 pub mod calls;
 mod cores;
 mod cycles;

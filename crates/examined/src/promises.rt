@@ -5,7 +5,7 @@ use sequences::counts::sequences_above;
 use sequences::numbers::{WHOLE, at_most, equal, plus};
 
 // A path: how many accesses and choice sequences it has, and whether it is a straight run whose blocks are all tracked.
-#[derive(Drop)]
+#[derive(Clone, Copy)]
 pub(crate) struct Path {
     pub accesses: u64,
     pub all: u64,
@@ -13,7 +13,7 @@ pub(crate) struct Path {
 }
 
 // What was answered of a graph beside its table: the units set aside, and the accesses of its longest path.
-#[derive(Drop)]
+#[derive(Clone, Copy)]
 pub(crate) struct Told {
     pub aside: u64,
     pub longest: u64,

@@ -2,7 +2,7 @@
 use basics::larger;
 use sequences::numbers::plus;
 
-#[derive(Drop)]
+#[derive(Clone, Copy)]
 pub struct Report {
     // Graph calls.
     pub calls: u64,

@@ -1,4 +1,6 @@
 // The listing program: standard input to standard output. All that it does itself is to move bytes; what they are is `graphs`'s.
+#![tactic(auto)]
+
 use front::write_front;
 use graphs::graph_of_text;
 use writing::Written;

@@ -1,6 +1,8 @@
 // The floor program: standard input to standard output. It reads the curve program's input, and writes the spread of misses of the best case's table (document 02,
 // request 10/13): a line with the number of states, and for each miss count from 0 to the largest a line with the misses, the units there, and the units there and above,
 // which are sure: on every path so many misses or more have at least that chance. Or the line of a refusal.
+#![tactic(auto)]
+
 use best_questions::miss_spread_in;
 use parts::analyse_best_numbers;
 use reading::{Read, read_numbers};

@@ -1,4 +1,6 @@
 // When folds end, and when the search for a partner does; `partner` has how good a partner is, and what becomes of the two.
+#![tactic(auto)]
+
 ghost use Rattle.std.specs.Prelude.{◌≡◌};
 ghost use Rattle.folding.specs.Ends.{is_above_limit, none_nearer};
 

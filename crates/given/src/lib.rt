@@ -1,5 +1,7 @@
 // What is given to C of an answer in Rattle: its number, 0 or the refusal's, and the values, each written where a pointer says. What would have taken a value keeps what
 // stood there where the answer is a refusal.
+#![tactic(auto)]
+
 ghost use Rattle.std.specs.Prelude.{◌≡◌};
 ghost use Rattle.given.specs.Answers.{start_given, cache_given, outcome_given, amount_given, count_given, time_given, bytes_of, reading_given, sizes_given};
 

@@ -1,4 +1,6 @@
 // What is asked of the lists that are handed in before any work: numbers in their ranges, blocks listed once, accesses tracked, and a graph that keeps every rule of document 01, section 2.
+#![tactic(auto)]
+
 ghost use Rattle.std.specs.Prelude.{◌≡◌, map, ◌≤◌, length};
 ghost use Rattle.basics.specs.Sums.{sum_over};
 ghost use Rattle.rules.specs.Contents.{among, all_tracked, once};

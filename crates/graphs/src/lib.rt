@@ -1,4 +1,6 @@
 // From the text of a listing to the curve program's input: the listing expanded, and the lines that its graph gives, in rooms that the caller lends.
+#![tactic(auto)]
+
 ghost use Rattle.std.specs.Prelude.{◌≡◌, true, ◌∷◌, ◌+◌, ◌-◌, ◌*◌, ◌≤◌, ◌<◌, min, length, get_or, take, drop};
 ghost use Rattle.listing.specs.Call.{after_expanding};
 ghost use Rattle.writing.specs.Put.{Put};

@@ -1,4 +1,6 @@
 // What is still to come of the runs of a table, a number for each, its head, in the order of the contents that it comes to next. Nothing is asked of the arguments.
+#![tactic(auto)]
+
 ghost use Rattle.std.specs.Prelude.{◌≡◌};
 ghost use Rattle.rules.specs.Contents.{bit};
 ghost use Rattle.heads.specs.Head.{streams_in, stream_in, stretch_in, length_in, start_in, contents_in, first_stream, contents_at, head_of, next_head, streams_for};

@@ -1,4 +1,6 @@
 // The lines of curves, in misses and in cycles, put into lent room one behind the other, as far as it goes. Each function says where what it wrote ends.
+#![tactic(auto)]
+
 ghost use Rattle.std.specs.Prelude.{take};
 ghost use Rattle.rules.specs.Units.{whole};
 ghost use Rattle.writing.specs.Put.{Put};

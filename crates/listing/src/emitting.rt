@@ -7,7 +7,7 @@ ghost use Rattle.listing.specs.Writing.{rooms_of, edge_written, arm_opened, join
 use listing_form::begins_item;
 
 // How many nodes, accesses and edges are written; how many accesses the open node has.
-#[derive(Drop)]
+#[derive(Clone, Copy)]
 pub(crate) struct Standing {
     pub(crate) nodes: usize,
     pub(crate) accesses: usize,
@@ -16,7 +16,7 @@ pub(crate) struct Standing {
 }
 
 // The place behind the tokens that are written, and how it stands then.
-#[derive(Drop)]
+#[derive(Clone, Copy)]
 pub(crate) struct Passed {
     pub(crate) at: usize,
     pub(crate) standing: Standing,

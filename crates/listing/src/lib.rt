@@ -1,4 +1,6 @@
 // Loops and branches as the compiler lists them, expanded into a graph: document 02, request 8/13.
+#![tactic(auto)]
+
 mod emitting;
 
 ghost use Rattle.std.specs.Prelude.{◌≡◌, length};
@@ -13,7 +15,7 @@ use listing_form::{Counted, count_listing};
 use rules::{Refusal, Verdict};
 
 // How many nodes, accesses and edges the graph has; or a refusal.
-#[derive(Drop)]
+#[derive(Clone, Copy)]
 pub enum Expansion {
     Graph(usize, usize, usize),
     Refused(Refusal),

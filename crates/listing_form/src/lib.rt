@@ -1,10 +1,12 @@
 // The form of a listing, document 02, request 8/13: whether tokens are of it, and how many nodes and accesses they add. Nothing is written.
+#![tactic(auto)]
+
 ghost use Rattle.std.specs.Prelude.{◌≡◌, not, ◌&&◌, ◌||◌, ℕ, suc, ◌+◌, ◌*◌, ◌≤◌, ◌<◌, eqb, length, get_or, drop};
 ghost use Rattle.listing_form.specs.Reading.{kind_of, an_access, a_branch, a_loop, item, sequence_in, listing_of};
 ghost use Rattle.listing_form.specs.Counting.{capped, begins_item, behind, count_of};
 
 // The place behind what was read, and how many nodes and accesses it adds: at most 4,097 of each are counted.
-#[derive(Drop)]
+#[derive(Clone, Copy)]
 pub struct Size {
     pub at: usize,
     pub nodes: u64,
@@ -12,7 +14,7 @@ pub struct Size {
 }
 
 // What was read is of the form; or not.
-#[derive(Drop)]
+#[derive(Clone, Copy)]
 pub enum Counted {
     Found(Size),
     Broken,

@@ -1,4 +1,6 @@
 // Which tracked blocks are accessed on some path ahead, as masks: what the second analysis has to keep.
+#![tactic(auto)]
+
 ghost use Rattle.std.specs.Prelude.{◌≡◌, cond, ◌++◌, ◌+◌, ◌≤◌, eqb, leb, length, get_or, drop};
 ghost use Rattle.std.specs.Int.Bits.{bit_or};
 ghost use Rattle.basics.specs.Sums.{sum_over};

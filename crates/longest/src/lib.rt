@@ -1,4 +1,6 @@
 // The longest path to the last node: document 02, request 9/13.
+#![tactic(auto)]
+
 ghost use Rattle.std.specs.Prelude.{◌≡◌, ℕ, ◌≤◌, ◌<◌, length, get_or, take};
 ghost use Rattle.rules.specs.Input.{input_of, edges_of, predecessors};
 ghost use Rattle.rules.specs.Longest.{most_of, longest_to, up_to, longest_answer};

@@ -1,4 +1,6 @@
 // The list, the rows and the report of the nightly build: how many graphs a list has, whether the build is refused, and a row in words. Document 02, request 13/13.
+#![tactic(auto)]
+
 ghost use Rattle.std.specs.Prelude.{◌≡◌};
 ghost use Rattle.rules.specs.Answers.{first};
 ghost use Rattle.night_rows.specs.Graphs.{count_of};
@@ -10,7 +12,7 @@ use rules::{Refusal, Verdict};
 
 // A row: 0 or the number of a refusal, how many states the finished table has, the set-aside count, the accesses of the longest path, and the smallest budget for the
 // allowance.
-#[derive(Drop)]
+#[derive(Clone, Copy)]
 pub struct Row {
     pub refusal: u64,
     pub states: u64,
@@ -20,7 +22,7 @@ pub struct Row {
 }
 
 // How many graphs were accepted, how many refused under each of 9, 1, 2, 3, 4 and 5, and the sum of the set-aside counts.
-#[derive(Drop)]
+#[derive(Clone, Copy)]
 pub struct Report {
     pub accepted: u64,
     pub text: u64,

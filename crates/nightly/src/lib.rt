@@ -1,4 +1,6 @@
 // The nightly build in one call: document 02, request 13/13.
+#![tactic(auto)]
+
 ghost use Rattle.std.specs.Prelude.{◌≡◌, true, ◌*◌, ◌≤◌, length};
 ghost use Rattle.rules.specs.declared.Verdict.TheVariants.{Accepted};
 ghost use Rattle.nightly.specs.declared.Built.TheVariants.{Report as ReportOf};
@@ -15,7 +17,7 @@ mod graphs;
 mod rows;
 
 // What the nightly build answers: the report on all graphs, or a refusal.
-#[derive(Drop)]
+#[derive(Clone, Copy)]
 pub enum Built {
     Report(Report),
     Refused(Refusal),

@@ -1,4 +1,6 @@
 // What a node starts from: what is set aside before the first of all, and where the edges after that of its first predecessor begin; `last` has the block accessed directly before.
+#![tactic(auto)]
+
 ghost use Rattle.std.specs.Prelude.{◌≡◌};
 ghost use Rattle.nodes.specs.Starts.{aside_at_start, after_edge};
 

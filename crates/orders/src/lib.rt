@@ -1,4 +1,6 @@
 // Which of two comes first: by two numbers, and of two states in a table.
+#![tactic(auto)]
+
 ghost use Rattle.std.specs.Prelude.{◌≡◌, cond};
 ghost use Rattle.rules.specs.Ordered.{by_number, then_by, is_before};
 ghost use Rattle.rules.specs.Table.{order};

@@ -1,5 +1,7 @@
 // A pairing that is handed in for a join: document 02, request 11/13. Whether the entries for a graph have the form, and whether a pairing is accepted. It
 // is read where it stands, three numbers a row.
+#![tactic(auto)]
+
 ghost use Rattle.std.specs.Prelude.{◌≡◌, true, cond, ◌||◌, ◌+◌, ◌*◌, ◌≤◌, eqb, leb, length};
 ghost use Rattle.rules.specs.AnyTable.{used_at, is_pair, places_exist, uses_from, fits};
 ghost use Rattle.rules.specs.Input.{edges_of, joins_at, joins_to};

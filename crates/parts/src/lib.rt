@@ -1,4 +1,6 @@
 // The graph call and the longest path of what a list of numbers in the curve's order means.
+#![tactic(auto)]
+
 ghost use Rattle.std.specs.Prelude.{◌≡◌, ◌≤◌, ◌<◌, length};
 ghost use Rattle.curve_numbers.specs.Places.{Ends};
 ghost use Rattle.parts.specs.Best.{best_numbers_left};

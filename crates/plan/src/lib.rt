@@ -1,5 +1,7 @@
 // The plan of a reduction to at most so many contents: light contents lose their highest place (crate tight_rules, Reduction.antt). It goes over the units of each mask alone, in
 // an array by mask, and says for each mask where its units go; rows move afterwards, each once.
+#![tactic(auto)]
+
 ghost use Rattle.std.specs.Prelude.{◌≡◌, cond, ◌&&◌, not, ◌+◌, ◌-◌, ◌%◌, ◌≤◌, ◌<◌, eqb, length};
 ghost use Rattle.rules.specs.Contents.{places, bit};
 ghost use Rattle.rules.specs.Units.{more};
@@ -11,7 +13,7 @@ use rules::{Place, Units};
 use tables::{has_place, without_place};
 
 // How many contents have units, and what is set aside.
-#[derive(Drop)]
+#[derive(Clone, Copy)]
 pub struct Tally {
     pub present: usize,
     pub aside: Units,

@@ -1,17 +1,19 @@
 // What is printed for a graph, which text of two and from numbers of which form, and whether rooms are long enough for it.
+#![tactic(auto)]
+
 ghost use Rattle.std.specs.Prelude.{◌≡◌};
 ghost use Rattle.printed.specs.Rooms.{long_enough};
 ghost use Rattle.printed.specs.Wanted.{wanted_bytes};
 
 // Which text is wanted: the curve, or the curves in cycles.
-#[derive(Drop)]
+#[derive(Clone, Copy)]
 pub enum Wanted {
     Misses,
     Cycles,
 }
 
 // The form of a text's numbers: the curve's alone, or a set count, a revision and a start before them.
-#[derive(Drop)]
+#[derive(Clone, Copy)]
 pub enum Form {
     Plain,
     Chosen,

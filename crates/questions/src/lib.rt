@@ -1,5 +1,7 @@
 // Questions put to a finished table: document 01, section 4, and document 02, request 9/13. Each is asked of the first `states` states of a table in
 // words, or of all that there are: what the graph call left in its result room.
+#![tactic(auto)]
+
 ghost use Rattle.std.specs.Prelude.{◌≡◌, take};
 ghost use Rattle.rules.specs.Questions.{above_answer, budget_answer, spread_answer};
 ghost use Rattle.rules.specs.Cycles.{above_cycles_answer, cycle_budget_answer};

@@ -1,4 +1,6 @@
 // The quick question of document 02, request 5/13: it is asked of a lent spread, or of any row of numbers.
+#![tactic(auto)]
+
 ghost use Rattle.std.specs.Prelude.{◌≡◌};
 ghost use Rattle.rules.specs.Within.{is_within};
 

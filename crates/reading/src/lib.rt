@@ -1,4 +1,6 @@
 // Text read: the numbers of a well-formed text, document 01, section 7.
+#![tactic(auto)]
+
 ghost use Rattle.std.specs.Prelude.{◌≡◌, ◌≤◌, length};
 ghost use Rattle.reading.specs.Reading.{is_gap, is_digit};
 ghost use Rattle.reading.specs.Call.{after_reading};
@@ -8,7 +10,7 @@ ghost use Rattle.reading.specs.Standing.{standing, lost, digit_added, number_end
 use basics::clear_numbers;
 
 // How many numbers were read; or nothing, because the text is malformed or the room for numbers is too short.
-#[derive(Drop)]
+#[derive(Clone, Copy)]
 pub enum Read {
     Numbers(usize),
     Nothing,
@@ -16,7 +18,7 @@ pub enum Read {
 
 // How far reading has come: whether all is well so far, how many numbers are done, how many digits the number under way has
 // (0: none is under way), and the value that they say.
-#[derive(Drop)]
+#[derive(Clone, Copy)]
 struct Progress {
     good: bool,
     count: usize,

@@ -1,4 +1,6 @@
 // Runs on the trace recorder's disk: a trace is read, its damaged blocks are listed, a run of accesses is written. Document 02, request 7/13.
+#![tactic(auto)]
+
 ghost use Rattle.std.specs.Prelude.{◌≡◌};
 ghost use Rattle.recorder.specs.Calls.{trace_read, trace_listed, trace_written};
 
@@ -17,7 +19,7 @@ mod damage;
 mod packing;
 
 // What reading answers: how many accesses the trace says, the place of its first damaged block, or a refusal.
-#[derive(Drop)]
+#[derive(Clone, Copy)]
 pub enum Reading {
     Accesses(usize),
     Damaged(usize),
@@ -25,7 +27,7 @@ pub enum Reading {
 }
 
 // What listing and writing answer: how many blocks are damaged, or were written; or a refusal.
-#[derive(Drop)]
+#[derive(Clone, Copy)]
 pub enum Counted {
     Blocks(usize),
     Refused(Refusal),

@@ -1,4 +1,6 @@
 // When the work says no: document 01, section 5; document 02, requests 1/13, 6/13 and 10/13. What is asked of the lists is asked by `graph_check`.
+#![tactic(auto)]
+
 ghost use Rattle.std.specs.Prelude.{◌≡◌};
 ghost use Rattle.rules.specs.declared.Verdict.TheVariants.{Accepted, Refused};
 ghost use Rattle.rules.specs.Input.{input_in};

@@ -1,5 +1,7 @@
 // Questions put to the second analysis' answer: a lent row of units, of which cell m has those at m misses. Document 01, section 4, and document 02, request 9/13. The quick yes or no of document 02,
 // request 5/13, is asked of the row as it is, by `quick`.
+#![tactic(auto)]
+
 ghost use Rattle.std.specs.Prelude.{◌≡◌};
 ghost use Rattle.row_questions.specs.Row.{row_above, row_budget, row_spread, row_above_cycles, row_cycle_budget};
 

@@ -1,5 +1,7 @@
 // The questions put to a finished table, asked of a lent row of states: each copies the row, by value, and asks the copy. Of document 01's table, and of the
 // best case's.
+#![tactic(auto)]
+
 ghost use Rattle.std.specs.Prelude.{◌≡◌};
 ghost use Rattle.rules.specs.Questions.{above_answer, budget_answer, spread_answer};
 ghost use Rattle.rules.specs.BestQuestions.{miss_spread_answer, hit_spread_answer};

@@ -8,7 +8,7 @@ use questions::{above_cycles_in, above_in, smallest_budget_in, smallest_cycles_i
 use rules::{Amount, Count, State, Time};
 
 // The first states of a row, 65 at most: one more than a table has.
-#[derive(Drop)]
+#[derive(Clone, Copy)]
 pub(crate) struct Held {
     pub states: usize,
     pub words: [u64; 325],

@@ -49,7 +49,7 @@ module _ {A : Type 0} (better : A → A → Bool) (z : A) where
       rw (e, end) (stays t i (suc i) T (λ p l. h.behind (suc p) (omega arith) (suc-le-suc l)))
   reaches s j i (t ∷ T) (suc k) h e =
       let on : suc i + k ≡ i + suc k = omega arith in
-      reaches _ _ (suc i) T k further (go (better t s)) ∙ on
+      reaches (cond (better t s) t s) (cond (better t s) i j) (suc i) T k further (go (better t s)) ∙ on
     where
       further : Best T k
       further =

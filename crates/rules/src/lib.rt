@@ -1,15 +1,17 @@
 // The plain types that the definitions (specs/), the code above this crate and its callers share: document 01, sections 1 to 5.
+#![tactic(auto)]
+
 ghost use Rattle.std.specs.Prelude.{◌≡◌};
 ghost use Rattle.rules.specs.Units.{split_of, add_of};
 ghost use Rattle.rules.specs.Answers.{number_of};
 
 // A probability: whole units of 2^-48.
 #[repr(C)]
-#[derive(Drop)]
+#[derive(Clone, Copy)]
 pub struct Units(pub u64);
 
 // A number of units divided by the ways: each way's part, rounded down, and what is left over.
-#[derive(Drop)]
+#[derive(Clone, Copy)]
 pub struct Share {
     pub part: Units,
     pub rest: Units,
@@ -54,7 +56,7 @@ impl Units {
 // How many ways of each of sixteen sets may be filled: a byte for each set, set 0 in the highest byte of `front`, set 8 in that of `back`,
 // so that comparing the words compares the numbers, set 0 first.
 #[repr(C)]
-#[derive(Drop)]
+#[derive(Clone, Copy)]
 pub struct Filled {
     pub front: u64,
     pub back: u64,
@@ -63,7 +65,7 @@ pub struct Filled {
 // A state of a table: the contents mask (bit i: the tracked block at place i is surely held), a miss count, how many ways of each set may
 // be filled, and units.
 #[repr(C)]
-#[derive(Drop)]
+#[derive(Clone, Copy)]
 pub struct State {
     pub mask: u64,
     pub misses: u64,
@@ -73,14 +75,14 @@ pub struct State {
 
 // Hits and misses are counted separately in the best case's table, each as a type of its own, so that a hit count is never taken as a miss count:
 // document 02, request 10/13.
-#[derive(Drop)]
+#[derive(Clone, Copy)]
 pub struct Hits(pub u64);
 
-#[derive(Drop)]
+#[derive(Clone, Copy)]
 pub struct Misses(pub u64);
 
 // A state of that table. `exact`: the blocks of the mask are all that is held. Not `exact`, which is called open: anything may be held, and the mask is 0.
-#[derive(Drop)]
+#[derive(Clone, Copy)]
 pub struct BestState {
     pub exact: bool,
     pub mask: u64,
@@ -90,14 +92,14 @@ pub struct BestState {
 }
 
 // Where an accessed block stands in the list of tracked blocks.
-#[derive(Drop)]
+#[derive(Clone, Copy)]
 pub enum Place {
     At(usize),
     Untracked,
 }
 
 // The cache: how many sets it has, how many ways a set has, the core's revision, and how it is found.
-#[derive(Drop)]
+#[derive(Clone, Copy)]
 pub struct Cache {
     pub sets: u32,
     pub ways: u32,
@@ -106,7 +108,7 @@ pub struct Cache {
 }
 
 // The block accessed directly before, if it is known.
-#[derive(Drop)]
+#[derive(Clone, Copy)]
 pub enum Last {
     Unknown,
     Block(u32),
@@ -114,7 +116,7 @@ pub enum Last {
 
 // What an access is after: where its block stands in the list of tracked blocks, whether it was accessed directly before, the set that it
 // belongs to, and the tracked blocks of that set, as a mask.
-#[derive(Drop)]
+#[derive(Clone, Copy)]
 pub struct Target {
     pub place: Place,
     pub again: bool,
@@ -123,21 +125,21 @@ pub struct Target {
 }
 
 // How the cache is found before the first access: empty, or used, so that any way may hold any block.
-#[derive(Drop)]
+#[derive(Clone, Copy)]
 pub enum Start {
     Cold,
     Warm,
 }
 
 // The places of the two states that a fold makes one: that of fewest units in the table, and its partner's among the others.
-#[derive(Drop)]
+#[derive(Clone, Copy)]
 pub struct Pair {
     pub fewest: usize,
     pub partner: usize,
 }
 
 // Why the work says no: a name for each line of section 5's table, and of document 02's refusals.
-#[derive(Drop)]
+#[derive(Clone, Copy)]
 pub enum Refusal {
     Text,
     Ways,
@@ -194,69 +196,69 @@ impl Refusal {
 }
 
 // What is decided about an input before any work.
-#[derive(Drop)]
+#[derive(Clone, Copy)]
 pub enum Verdict {
     Accepted,
     Refused(Refusal),
 }
 
 // What the graph call answers: how many states the finished table has and the set-aside count, or a refusal.
-#[derive(Drop)]
+#[derive(Clone, Copy)]
 pub enum Outcome {
     Finished(usize, Units),
     Refused(Refusal),
 }
 
 // What the graph call for the best case answers: how many states the finished table has, or a refusal.
-#[derive(Drop)]
+#[derive(Clone, Copy)]
 pub enum BestOutcome {
     Finished(usize),
     Refused(Refusal),
 }
 
 // What a question about units answers.
-#[derive(Drop)]
+#[derive(Clone, Copy)]
 pub enum Amount {
     Units(Units),
     Refused(Refusal),
 }
 
 // What a question about a miss count answers: the smallest budget, or the largest count of a spread.
-#[derive(Drop)]
+#[derive(Clone, Copy)]
 pub enum Count {
     Misses(u64),
     Refused(Refusal),
 }
 
 // What the spread of misses of a best case's table answers, and the spread of hits: the largest count.
-#[derive(Drop)]
+#[derive(Clone, Copy)]
 pub enum MissCount {
     Largest(Misses),
     Refused(Refusal),
 }
 
-#[derive(Drop)]
+#[derive(Clone, Copy)]
 pub enum HitCount {
     Largest(Hits),
     Refused(Refusal),
 }
 
 // What a question about cycles answers: the smallest budget.
-#[derive(Drop)]
+#[derive(Clone, Copy)]
 pub enum Time {
     Cycles(u64),
     Refused(Refusal),
 }
 
 // What the longest path answers: its accesses.
-#[derive(Drop)]
+#[derive(Clone, Copy)]
 pub enum Length {
     Accesses(u64),
     Refused(Refusal),
 }
 
 // A core: the cycles of a hit, and of a miss.
-#[derive(Drop)]
+#[derive(Clone, Copy)]
 pub struct Core {
     pub hit: u64,
     pub miss: u64,

@@ -8,7 +8,7 @@ use folding::partner::fewest_of_four;
 use rules::Units;
 
 // The fewest units of the first `seen` states; those before place `from` have more.
-#[derive(Drop)]
+#[derive(Clone, Copy)]
 pub(crate) struct Lowest {
     pub units: Units,
     pub from: usize,

@@ -1,4 +1,6 @@
 // Which two states of a table are folded: the one of fewest units and its partner. Words are read here and not written.
+#![tactic(auto)]
+
 ghost use Rattle.std.specs.Prelude.{◌≡◌, ◌*◌, ◌≤◌, length};
 ghost use Rattle.words.specs.Tables.{table_of};
 ghost use Rattle.searches.specs.Searches.{chosen, sought};
@@ -14,7 +16,7 @@ mod memory;
 mod partner;
 
 // The places in a table of the two states that a fold makes one.
-#[derive(Drop)]
+#[derive(Clone, Copy)]
 pub struct Two {
     pub fewest: usize,
     pub partner: usize,

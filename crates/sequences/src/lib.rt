@@ -2,6 +2,8 @@
 // a small graph, and access lists one after the other. It shares no code with the graph call and the questions.
 //
 // Every function takes every argument: what is out of range is answered by 0, by nothing, or by a number that no comparison holds for.
+#![tactic(auto)]
+
 mod cache;
 pub mod counts;
 pub mod input;

@@ -1,5 +1,7 @@
 // What is done with one state or two, by value: this needs no table, and so nothing of its callers. Two states that stand in the same place or are made one are here, the filled numbers in
 // `filled`, what an access makes of a state in `step`; `best` has what looks at two states of the best case's table.
+#![tactic(auto)]
+
 ghost use Rattle.std.specs.Prelude.{◌≡◌, ◌&&◌};
 ghost use Rattle.rules.specs.Fold.{meet as meet_of};
 ghost use Rattle.rules.specs.Table.{order, plus as plus_of};

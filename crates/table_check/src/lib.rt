@@ -1,4 +1,6 @@
 // Whether the states in some words are a table: document 01, section 4, with the filled numbers of document 02, request 6/13.
+#![tactic(auto)]
+
 ghost use Rattle.std.specs.Prelude.{◌≡◌, eqb};
 ghost use Rattle.rules.specs.Units.{whole};
 ghost use Rattle.rules.specs.Table.{rising as rising_of, total};

@@ -1,5 +1,7 @@
 // What the code of the two tables has in common where no state enters: contents as masks, what an access is after, the fewer of two units, and the edges into a node. What is the
 // same for any kind of state can only be said once in laws: `proofs` has those, and `estimate` and `best` cite them.
+#![tactic(auto)]
+
 ghost use Rattle.std.specs.Prelude.{◌≡◌, true, cond, ◌&&◌, ◌≤◌, ◌<◌, ◌%◌, min, eqb, leb, length};
 ghost use Rattle.rules.specs.declared.Place.TheVariants.{At};
 ghost use Rattle.rules.specs.Contents.{among, bit, find, has, is_last, size, with, without, of_set};

@@ -1,4 +1,6 @@
 // Curves as text: from the bytes or numbers of a graph to the bytes of its curve, in misses or in cycles, in rooms that the caller lends.
+#![tactic(auto)]
+
 ghost use Rattle.std.specs.Prelude.{◌≡◌};
 ghost use Rattle.printed.specs.Rooms.{after_numbers, after_text, after_cycles_of_numbers, after_cycles_of_text, after_chosen_text, after_cycles_of_chosen_text};
 ghost use Rattle.printed.specs.Wanted.{wanted_after, wanted_after_text};

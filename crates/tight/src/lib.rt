@@ -1,4 +1,6 @@
 // The second curve: an access in code. A table is dense: a row of cells for each contents, all in one lent room of words.
+#![tactic(auto)]
+
 mod arrivals;
 mod moves;
 mod rows;
@@ -11,7 +13,7 @@ mod totals;
 
 // A row on its way to a table: `width` words at `from`, as far as those at `select` choose; the number of each mask's row, at `numbers`; and the table's cells, `rows` rows of
 // `length` words from `cells` on.
-#[derive(Drop)]
+#[derive(Clone, Copy)]
 pub(crate) struct Route {
     from: usize,
     select: usize,
@@ -24,7 +26,7 @@ pub(crate) struct Route {
 
 // The rows that are split: `count` masks from `masks` on, as many rows of `length` words from `rows` on, of which `width` are in use; the row at `select` chooses the cells, and
 // what is left over goes to the row at `rest`.
-#[derive(Drop)]
+#[derive(Clone, Copy)]
 pub(crate) struct Shares {
     masks: usize,
     rows: usize,
@@ -37,7 +39,7 @@ pub(crate) struct Shares {
 
 // A table whose rows an access sends on: `count` masks from `masks` on, their units from `units` on, and as many rows of `length` words from `rows` on, of which `width` are in
 // use. The row at `lose` chooses the cells of which a miss evicts a block, the one at `keep` the others, and the one at `all` every cell; at `rest` is what is left over.
-#[derive(Drop)]
+#[derive(Clone, Copy)]
 pub(crate) struct Sender {
     masks: usize,
     units: usize,
@@ -52,7 +54,7 @@ pub(crate) struct Sender {
 }
 
 // A table that receives them: the number of each mask's row, at `numbers`, and its cells, `rows` rows of `length` words from `cells` on.
-#[derive(Drop)]
+#[derive(Clone, Copy)]
 pub(crate) struct Receiver {
     numbers: usize,
     cells: usize,
@@ -61,7 +63,7 @@ pub(crate) struct Receiver {
 }
 
 // What an access sets aside before the row ends: what is left over where rows are split, and what the plan sets aside.
-#[derive(Drop)]
+#[derive(Clone, Copy)]
 pub(crate) struct SetAside {
     over: u64,
     planned: u64,

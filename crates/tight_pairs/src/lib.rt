@@ -1,4 +1,6 @@
 // The rows of two tables, paired: those that share most blocks first, and of these the rows of both tables from the front. Each pair takes as many units as both rows have left.
+#![tactic(auto)]
+
 ghost use Rattle.std.specs.Prelude.{◌≡◌, cond, [], ◌∷◌, ◌+◌, ◌≤◌, ◌<◌, min, eqb};
 ghost use Rattle.tight_rows.specs.Room.{words_of, Where};
 ghost use Rattle.tight_pairs.specs.Matching.{two, row_with, rows_with, turns_to, shared_by, is_side, are_apart, has_room, is_placed, Placed, Pairable, pair_put, PairedTo};
@@ -7,7 +9,7 @@ use tables::size_of;
 use tight_rows::rows::{ends_by, smaller};
 
 // The rows of a table that is paired with another: `rows` masks from `masks` on, and as many words from `units` on for what is left of each row's units.
-#[derive(Drop)]
+#[derive(Clone, Copy)]
 pub struct Side {
     pub masks: usize,
     pub units: usize,
@@ -15,7 +17,7 @@ pub struct Side {
 }
 
 // Two tables that are paired, and the list of their pairs from `pairs` on: for each pair three words, the row of either table and the units.
-#[derive(Drop)]
+#[derive(Clone, Copy)]
 pub struct Sides {
     pub left: Side,
     pub right: Side,

@@ -1,4 +1,6 @@
 // When the second analysis says no, and how much working room it is to be lent.
+#![tactic(auto)]
+
 ghost use Rattle.std.specs.Prelude.{◌≡◌, cond, ◌||◌};
 ghost use Rattle.rules.specs.Answers.{first};
 ghost use Rattle.rules.specs.Refusals.{outside};

@@ -1,4 +1,6 @@
 // Where the tables of the second analysis stand while the nodes are worked: how many are kept at a node, and which slot holds the table of each node.
+#![tactic(auto)]
+
 ghost use Rattle.std.specs.Prelude.{◌≡◌, cond, ◌&&◌, ◌++◌, ◌≤◌, eqb, leb, length, drop};
 ghost use Rattle.rules.specs.Input.{edges_of};
 ghost use Rattle.tight_rules.specs.Rooms.{passes, kept_below, most_kept};

@@ -1,5 +1,7 @@
 // The trace program: a trace on standard input, and on standard output its accesses; with the word `damaged` the places of its damaged blocks. All that it does itself
 // is to move bytes; what they are is `traces`'s.
+#![tactic(auto)]
+
 use front::write_front;
 use traces::{accesses_of_trace, damaged_of_trace};
 use writing::Written;

@@ -1,4 +1,6 @@
 // One block of the trace recorder's disk: judged, read and written. Document 02, request 7/13. What has not 512 bytes is no block.
+#![tactic(auto)]
+
 mod fields;
 
 ghost use Rattle.std.specs.Prelude.{◌≡◌, ◌++◌, ◌+◌, ◌*◌, ◌≤◌, length, take, replicate};

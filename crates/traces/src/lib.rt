@@ -1,4 +1,6 @@
 // What is said of a trace, as text, in rooms that the caller lends: its accesses, the places of its damaged blocks, or a refusal.
+#![tactic(auto)]
+
 ghost use Rattle.std.specs.Prelude.{◌≡◌, leb};
 ghost use Rattle.recorder.specs.Calls.{trace_read, trace_listed};
 ghost use Rattle.writing.specs.Put.{Put};

@@ -7,7 +7,7 @@ use longest::longest_path;
 use rules::{BestOutcome, Cache, Length, Outcome, Start};
 
 // An answer in numbers: a refusal's number, or 0 with the number of states and the set-aside count.
-#[derive(Drop)]
+#[derive(Clone, Copy)]
 pub(crate) struct Got {
     pub refusal: u64,
     pub states: usize,

@@ -3,6 +3,8 @@
 // caches with sets (document 02, request 1/13), of the same untracked block twice running (3/13), of the second revision (6/13) and of a used cache (12/13) are worked by hand. The longest path
 // and the questions in cycles (9/13) are asked of the same graphs, and the longest path of some more. Cases 1 to 5 and 9 are read as best case too (10/13), with both spreads. Graphs are joined by
 // pairings (11/13), and lists of graphs are judged in one nightly build (13/13). The cases are read from standard input: the file `stdin` has them, a line each.
+#![tactic(auto)]
+
 use crate::cases::all_cases;
 use case_text::report::Report;
 

@@ -10,7 +10,7 @@ use case_text::shown::say;
 use listing::{Expansion, expand};
 
 // What a call answered, in numbers: a refusal's number and nothing else, or 0 and how many nodes, accesses and edges there are.
-#[derive(Drop)]
+#[derive(Clone, Copy)]
 struct Size {
     refusal: u64,
     nodes: usize,

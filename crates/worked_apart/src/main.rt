@@ -1,6 +1,8 @@
 // What needs no graph call, by hand. Rows of states that are tables and rows that are not are asked every question of document 01, section 4, on both sides of 7 and 8, and every question in
 // cycles (document 02, request 9/13); the quick question is asked of rows of any numbers (5/13). Listings are expanded (8/13). Traces are written, read and judged (7/13). After each call the
 // rooms are compared word by word. The cases are read from standard input: the file `stdin` has them, a line each.
+#![tactic(auto)]
+
 use crate::cases::all_cases;
 use case_text::report::Report;
 

@@ -1,11 +1,13 @@
 // Text written into lent room, one piece behind the other, as far as the room goes: a byte that there is no room for is left out, and nothing else changes. Each
 // function says where what it wrote ends.
+#![tactic(auto)]
+
 ghost use Rattle.std.specs.Prelude.{[], ◌∷◌, ◌++◌};
 ghost use Rattle.writing.specs.Put.{Put};
 ghost use Rattle.writing.specs.Writing.{decimal, refused_line, gap, numbers_line};
 
 // What a call for a text answers: how many bytes it wrote, or that a room is too short.
-#[derive(Drop)]
+#[derive(Clone, Copy)]
 pub enum Written {
     Bytes(usize),
     NoRoom,
