@@ -26,7 +26,7 @@ use Rattle.recorder.proofs.Places as places
 
 -- a written trace says the accesses that it was written for
 pub says_them : (xs : List ℕ) → said (trace_of xs) ≡ xs
-says_them xs = back.said-written xs
+says_them xs = back.said_written xs
 
 -- none of its blocks is damaged
 pub none_damaged : (xs : List ℕ) → damaged_places (trace_of xs) ≡ []
@@ -34,7 +34,7 @@ none_damaged xs = back.none_written xs
 
 -- every block but the last is full: block j has 125 accesses, or those that are left
 pub full : (xs : List ℕ) (j : ℕ) → j < blocks_for (length xs) → count_in (get_or (blocks_of (trace_of xs)) j []) ≡ min 125 (length xs - j * 125)
-full xs j h = back.count-written xs j h
+full xs j h = back.count_written xs j h
 
 -- the blocks that a call of `write_trace` leaves in its room, handed to `read_trace`: it answers how many accesses they were, and leaves them in its own room
 module _ (xs room out : List ℕ) (few : length xs ≤ 4096)
@@ -43,12 +43,12 @@ module _ (xs room out : List ℕ) (few : length xs ≤ 4096)
   unfolding trace_written zero_beyond
   blocks_left =
       rw (le-ltb 4096 (length xs) few, le-ltb (length room) (blocks_for (length xs) * 512) room_fits)
-      (take_at (trace_of xs) (replicate (length room - length (trace_of xs)) 0) (blocks_for (length xs) * 512) (back.length-written xs))
+      (take_at (trace_of xs) (replicate (length room - length (trace_of xs)) 0) (blocks_for (length xs) * 512) (back.length_written xs))
 
   pub read_back : trace_read (take (blocks_for (length xs) * 512) (trace_written xs room).room) out ≡ record { answer = Accesses (length xs); room = zero_beyond xs out }
   unfolding trace_read
   read_back =
-      let size = back.length-written xs in
+      let size = back.length_written xs in
       rw (blocks_left, room_enough 125 (length (trace_of xs)) (length out) (omega arith) (omega arith), none_damaged xs, says_them xs)
 
 -- ---- any one changed byte is noticed (OneByte, Places)
@@ -63,18 +63,18 @@ pub its_block : (trace : List ℕ) → ((i : ℕ) → get_or trace i 0 < 256) �
     → is_sound j (get_or (blocks_of trace) j []) ≡ true
     → (is_sound j (get_or (blocks_of (set trace (j * 512 + p) v)) j []) ≡ false)
     × ((i : ℕ) → i ≢ j → get_or (blocks_of (set trace (j * 512 + p) v)) i [] ≡ get_or (blocks_of trace) i [])
-its_block trace bytes j p v whole inside new other sound = places.its-block trace j p v whole inside (bytes (j * 512 + p)) new other sound
+its_block trace bytes j p v whole inside new other sound = places.its_block trace j p v whole inside (bytes (j * 512 + p)) new other sound
 
 -- of a trace that has no damaged block: when one byte of block j changes, j is listed and nothing else
 pub only_its_block : (trace : List ℕ) → ((i : ℕ) → get_or trace i 0 < 256) → damaged_places trace ≡ []
     → (j p v : ℕ) → j < length trace / 512 → p < 512 → v < 256 → v ≢ get_or trace (j * 512 + p) 0 → damaged_places (set trace (j * 512 + p) v) ≡ j ∷ []
-only_its_block trace bytes none j p v whole inside new other = places.only-its-block trace j p v whole inside (bytes (j * 512 + p)) new other none
+only_its_block trace bytes none j p v whole inside new other = places.only_its_block trace j p v whole inside (bytes (j * 512 + p)) new other none
 
 -- ---- what is listed, and what reading refuses with (Places)
 
 -- the places that are listed rise
 pub rise : (trace : List ℕ) → rises by_number (damaged_places trace) ≡ true
-rise trace = places.places-rise trace
+rise trace = places.places_rise trace
 
 -- where listing counts a damaged block, reading refuses with the first place that is listed; where it counts none, reading reads
 module _ (trace room listed : List ℕ) (whole : length trace % 512 ≡ 0)

@@ -17,93 +17,93 @@ use Rattle.refusals.proofs.judge.Tie as tie
 abbrev given : tie.Start → Input
 given s =
     let a = s.args in
-    input_in a.cache a.limit a.tracked.now a.runs.now a.accesses.now a.edges.now a.result_room_fact a.working_room_fact
+    input_in a.cache a.limit a.tracked.now a.runs.now a.accesses.now a.edges.now a.result_room a.working_room
 
 -- ---- the reasons that do not apply
 
-ways-kept : (c : tie.Else1) → Passed 1 (given c.before.before.before.before.before.before.before.before.before.before.before)
+ways-kept : (c : tie.Else-bad_ways) → Passed 1 (given c.before.before.before.before.before.before.before.before.before.before.before)
 unfolding reasons
-ways-kept c = one_more_lem none_passed (sym c.before.before.before.before.before.outside.ensures ∙ c.if1.false)
+ways-kept c = one_more_lem none_passed (sym c.before.before.before.before.before.outside-bad_ways.ensures ∙ c.if-bad_ways.false)
 
-sets-kept : (c : tie.Else2) → Passed 2 (given c.before.before.before.before.before.before.before.before.before.before.before.before)
+sets-kept : (c : tie.Else-bad_sets) → Passed 2 (given c.before.before.before.before.before.before.before.before.before.before.before.before)
 unfolding reasons
-sets-kept c = one_more_lem (ways-kept c.before) (ap not (sym c.before.before.before.before.before.is-set-count.ensures) ∙ c.if2.false)
+sets-kept c = one_more_lem (ways-kept c.before) (ap not (sym c.before.before.before.before.before.is_set_count-bad_sets.ensures) ∙ c.if-bad_sets.false-raw)
 
-revision-kept : (c : tie.Else3) → Passed 3 (given c.before.before.before.before.before.before.before.before.before.before.before.before.before)
+revision-kept : (c : tie.Else-bad_revision) → Passed 3 (given c.before.before.before.before.before.before.before.before.before.before.before.before.before)
 unfolding reasons
-revision-kept c = one_more_lem (sets-kept c.before) (sym c.before.before.before.before.outside2.ensures ∙ c.if3.false)
+revision-kept c = one_more_lem (sets-kept c.before) (sym c.before.before.before.before.outside-bad_revision.ensures ∙ c.if-bad_revision.false)
 
-limit-kept : (c : tie.Else4) → Passed 4 (given c.before.before.before.before.before.before.before.before.before.before.before.before.before.before)
+limit-kept : (c : tie.Else-bad_limit) → Passed 4 (given c.before.before.before.before.before.before.before.before.before.before.before.before.before.before)
 unfolding reasons
-limit-kept c = one_more_lem (revision-kept c.before) (sym c.before.before.before.before.outside3.ensures ∙ c.if4.false)
+limit-kept c = one_more_lem (revision-kept c.before) (sym c.before.before.before.before.outside-bad_limit.ensures ∙ c.if-bad_limit.false)
 
-tracked-kept : (c : tie.Else6) → Passed 5 (given c.before.before.before.before.before.before.before.before.before.before.before.before.before.before.before.before.before)
+tracked-kept : (c : tie.Else-not-once) → Passed 5 (given c.before.before.before.before.before.before.before.before.before.before.before.before.before.before.before.before.before)
 unfolding reasons
 tracked-kept c =
     let f = c.before.before in
-    one_more_lem (limit-kept f.before) (neither _ _ (le-ltb _ _ f.if5.false) (ap not (sym c.before.once.ensures) ∙ c.if6.false))
+    one_more_lem (limit-kept f.before) (neither _ _ (le-ltb _ _ f.if-tracked-gt16.false) (ap not (sym c.before.once.ensures) ∙ c.if-not-once.false-raw))
 
-accesses-kept : (c : tie.Else7) → Passed 6 (given c.before.before.before.before.before.before.before.before.before.before.before.before.before.before.before.before.before.before)
+accesses-kept : (c : tie.Else-accesses-gt4096) → Passed 6 (given c.before.before.before.before.before.before.before.before.before.before.before.before.before.before.before.before.before.before)
 unfolding reasons
-accesses-kept c = one_more_lem (tracked-kept c.before) (le-ltb _ _ c.if7.false)
+accesses-kept c = one_more_lem (tracked-kept c.before) (le-ltb _ _ c.if-accesses-gt4096.false)
 
-graph-kept : (c : tie.Else8) → Passed 7 (given c.before.before.before.before.before.before.before.before.before.before.before.before.before.before.before.before.before.before.before.before)
+graph-kept : (c : tie.Else-graph_broken) → Passed 7 (given c.before.before.before.before.before.before.before.before.before.before.before.before.before.before.before.before.before.before.before.before)
 unfolding reasons
-graph-kept c = one_more_lem (accesses-kept c.before.before) (sym c.before.graph-broken.ensures ∙ c.if8.false)
+graph-kept c = one_more_lem (accesses-kept c.before.before) (sym c.before.graph_broken.ensures ∙ c.if-graph_broken.false)
 
 -- ---- what is answered
 
-returns : tie.Need-returns
+returns : tie.Need-returns-then-bad_ways
 unfolding reasons
-returns c = refused none_passed (sym c.before.before.before.before.before.outside.ensures ∙ c.if1.true)
+returns c = refused none_passed (sym c.before.before.before.before.before.outside-bad_ways.ensures ∙ c.if-bad_ways.true)
 
-returns-2 : tie.Need-returns-2
+returns-2 : tie.Need-returns-then-bad_sets
 unfolding reasons
-returns-2 c = refused (ways-kept c.before) (ap not (sym c.before.before.before.before.before.is-set-count.ensures) ∙ c.if2.true)
+returns-2 c = refused (ways-kept c.before) (ap not (sym c.before.before.before.before.before.is_set_count-bad_sets.ensures) ∙ c.if-bad_sets.true-raw)
 
-returns-3 : tie.Need-returns-3
+returns-3 : tie.Need-returns-then-bad_revision
 unfolding reasons
-returns-3 c = refused (sets-kept c.before) (sym c.before.before.before.before.outside2.ensures ∙ c.if3.true)
+returns-3 c = refused (sets-kept c.before) (sym c.before.before.before.before.outside-bad_revision.ensures ∙ c.if-bad_revision.true)
 
-returns-4 : tie.Need-returns-4
+returns-4 : tie.Need-returns-then-bad_limit
 unfolding reasons
-returns-4 c = refused (revision-kept c.before) (sym c.before.before.before.before.outside3.ensures ∙ c.if4.true)
+returns-4 c = refused (revision-kept c.before) (sym c.before.before.before.before.outside-bad_limit.ensures ∙ c.if-bad_limit.true)
 
-returns-5 : tie.Need-returns-5
+returns-5 : tie.Need-returns-then-tracked-gt16
 unfolding reasons
-returns-5 c = refused (limit-kept c.before) (or_left _ _ (lt-ltb _ _ c.if5.true))
+returns-5 c = refused (limit-kept c.before) (or_left _ _ (lt-ltb _ _ c.if-tracked-gt16.true))
 
-returns-6 : tie.Need-returns-6
+returns-6 : tie.Need-returns-then-not-once
 unfolding reasons
 returns-6 c =
     let i = given c.before.before.before.before.before.before.before.before.before.before.before.before.before.before.before.before.before in
-    refused (limit-kept c.before.before.before) (or_right (ltb 16 (length i.tracked)) _ (ap not (sym c.before.once.ensures) ∙ c.if6.true))
+    refused (limit-kept c.before.before.before) (or_right (ltb 16 (length i.tracked)) _ (ap not (sym c.before.once.ensures) ∙ c.if-not-once.true-raw))
 
-returns-7 : tie.Need-returns-7
+returns-7 : tie.Need-returns-then-accesses-gt4096
 unfolding reasons
-returns-7 c = refused (tracked-kept c.before) (lt-ltb _ _ c.if7.true)
+returns-7 c = refused (tracked-kept c.before) (lt-ltb _ _ c.if-accesses-gt4096.true)
 
-returns-8 : tie.Need-returns-8
+returns-8 : tie.Need-returns-then-graph_broken
 unfolding reasons
-returns-8 c = refused (accesses-kept c.before.before) (sym c.before.graph-broken.ensures ∙ c.if8.true)
+returns-8 c = refused (accesses-kept c.before.before) (sym c.before.graph_broken.ensures ∙ c.if-graph_broken.true)
 
-returns-9 : tie.Need-returns-9
+returns-9 : tie.Need-returns-then-result_room-limit
 unfolding reasons
-returns-9 c = refused (graph-kept c.before) (or_left _ _ (lt-ltb _ _ c.if9.true))
+returns-9 c = refused (graph-kept c.before) (or_left _ _ (lt-ltb _ _ c.if-result_room-limit.true))
 
-returns-10 : tie.Need-returns-10
+returns-10 : tie.Need-returns-then-working_room-lt5184
 unfolding reasons
 returns-10 c =
     let i = given c.before.before.before.before.before.before.before.before.before.before.before.before.before.before.before.before.before.before.before.before.before.before in
-    refused (graph-kept c.before.before) (or_right (ltb i.result_room i.limit) _ (lt-ltb _ _ c.if10.true))
+    refused (graph-kept c.before.before) (or_right (ltb i.result_room i.limit) _ (lt-ltb _ _ c.if-working_room-lt5184.true))
 
-returns-11 : tie.Need-returns-11
+returns-11 : tie.Need-returns
 unfolding reasons
 returns-11 c =
-    (one_more_lem (graph-kept c.before.before) (neither _ _ (le-ltb _ _ c.before.if9.false) (le-ltb _ _ c.if10.false))).rest
+    (one_more_lem (graph-kept c.before.before) (neither _ _ (le-ltb _ _ c.before.if-result_room-limit.false) (le-ltb _ _ c.if-working_room-lt5184.false))).rest
 
-pub judge-spec : {M : Type 1} → statement M
-judge-spec =
+pub judge_spec : {M : Type 1} → statement M
+judge_spec =
     tie.close
     (tie.spec
     (λ c. search rules)

@@ -9,29 +9,29 @@ use Rattle.refusals.proofs.judge_best.Tie as tie
 abbrev given : tie.Start → Input
 given s =
     let a = s.args in
-    input_in a.cache a.limit a.tracked.now a.runs.now a.accesses.now a.edges.now a.result_room_fact a.working_room_fact
+    input_in a.cache a.limit a.tracked.now a.runs.now a.accesses.now a.edges.now a.result_room a.working_room
 
-returns : tie.Need-returns
+returns : tie.Need-returns-in-Refused
 returns c =
     rw (
       ← further_best (given c.before.before.before.before.before.before.before.before.before.before.before),
       ← c.before.before.before.before.judge.ensures,
-      c.before.before.r.given.1,
+      c.before.before.in-Refused.is,
       ← c.before.before.before.before.before.all_tracked_fact.ensures,
     )
-    c.refused-further.ensures
+    c.refused_further.ensures
 
-returns-2 : tie.Need-returns-2
+returns-2 : tie.Need-returns-in-Accepted
 returns-2 c =
     rw (
       ← further_best (given c.before.before.before.before.before.before.before.before.before.before),
       ← c.before.before.before.judge.ensures,
-      c.before.enum_told.given.1,
+      c.before.in-Accepted.is,
       ← c.before.before.before.before.all_tracked_fact.ensures,
     )
-    c.accepted-further.ensures
+    c.accepted_further.ensures
 
-pub judge-best-spec : {M : Type 1} → statement M
-judge-best-spec =
+pub judge_best_spec : {M : Type 1} → statement M
+judge_best_spec =
     tie.close
     (tie.spec (λ c κs. search rules) (λ c κs. search rules) (λ c. search rules) (λ c κs. search rules) (λ c. search rules) (λ c κs. search rules) returns returns-2)

@@ -9,23 +9,23 @@ use Rattle.states.proofs.filled.fill_one.Tie as tie
 any-words : (b : tie.Start) → words_more b.args.ways (b.args.set % 16) b.args.f ≡ filled_more b.args.ways (b.args.set % 16) b.args.f
 any-words b = words_are _ _ (omega arith) b.args.f (omega (arith, b.ranges)) (omega (arith, b.ranges))
 
-returns : tie.Need-returns
-returns c = full_stays _ _ _ _ c.before.number_of_lem.ensures c.if1.true ∙ any-words c.before.before
+returns : tie.Need-returns-then-ways-number_of
+returns c = full_stays _ _ _ _ c.before.number_of.ensures c.if-ways-number_of.true ∙ any-words c.before.before
 
-returns-2 : tie.Need-returns-2
+returns-2 : tie.Need-returns-then-at-lt8
 returns-2 c =
     let first = c.before.before.before in
-    one_more_front _ _ first.before.before.args.f _ first.before.number_of_lem.ensures first.if1.false _ c.before.before.if2.true c.before.one_at.ensures _ c.wrapping-add-u64.ensures
+    one_more_front _ _ first.before.before.args.f _ first.before.number_of.ensures first.if-ways-number_of.false _ c.before.before.if-at-lt8.true c.before.one_at.ensures _ c.wrapping_add_u64.ensures
     ∙ any-words first.before.before
 
-returns-3 : tie.Need-returns-3
+returns-3 : tie.Need-returns
 returns-3 c =
     let first = c.before.before.before in
-    one_more_back _ _ first.before.before.args.f _ first.before.number_of_lem.ensures first.if1.false _ c.before.before.if2.false c.before.one-at2.ensures _ c.wrapping-add-u642.ensures
+    one_more_back _ _ first.before.before.args.f _ first.before.number_of.ensures first.if-ways-number_of.false _ c.before.before.if-at-lt8.false c.before.one_at-2.ensures _ c.wrapping_add_u64-2.ensures
     ∙ any-words first.before.before
 
-pub fill-one-spec : {M : Type 1} → statement M
-fill-one-spec =
+pub fill_one_spec : {M : Type 1} → statement M
+fill_one_spec =
     tie.close
     (tie.spec
     (λ c κs. search rules)

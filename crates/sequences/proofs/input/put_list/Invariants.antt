@@ -1,0 +1,11 @@
+-- `put_list` is safe and ends: each turn copies one number, and the row keeps its length. Assumes nothing.
+use Prim.Native.Nat.{◌≤◌, ◌-◌}
+use mathlib.Core.Path.{◌≡◌}
+use lib.ListN.{length}
+use Rattle.sequences.proofs.input.put_list.Given as goal
+
+abbrev pub invariant-loop-at : goal.invariant-loop-at
+invariant-loop-at l = (l.to ≤ l.at) × (length l.row ≡ length l.initial.row)
+
+abbrev pub decreases-loop-at : goal.decreases-loop-at
+decreases-loop-at l = l.end - l.at

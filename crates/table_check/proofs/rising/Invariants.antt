@@ -1,0 +1,13 @@
+-- `rising` meets its contract. The invariant of its loop: the states rise where those that are left do.
+use mathlib.Core.Path.{◌≡◌}
+use Prim.Native.Nat.{◌-◌, ◌≤◌}
+use lib.ListN.{drop}
+use Rattle.rules.specs.Table.{rising}
+use Rattle.words.specs.Tables.{table_of}
+use Rattle.table_check.proofs.rising.Given as goal
+
+abbrev pub invariant-loop-i : goal.invariant-loop-i
+invariant-loop-i l = (l.i ≤ l.n) × (rising (drop l.i (table_of l.words)) ≡ rising (table_of l.words))
+
+abbrev pub decreases-loop-i : goal.decreases-loop-i
+decreases-loop-i l = l.n - l.i

@@ -1,0 +1,17 @@
+-- `clear_bytes` zeroes every byte.
+use mathlib.Core.Path.{refl}
+use Prim.Native.Nat.{◌-◌}
+use native.Mathlib.Omega.{arith}
+use borrow.Author.Fill.{fill_none, fill_more}
+use Rattle.basics.proofs.Lists.{all_filled}
+use borrow.Author.Rules.{rules}
+use Rattle.trace_blocks.proofs.clear_bytes.Goals as goal
+
+pub loop-at-init : goal.loop-at-init
+loop-at-init c = (search rules, refl, fill_none _ 0)
+
+pub loop-at-preserved : goal.loop-at-preserved
+loop-at-preserved c = (search rules, search rules, rw c.loop-at.invariant.2 (fill_more c.loop-at.at 0 c.args.bytes.now (omega arith)))
+
+pub returns : goal.returns
+returns c = all_filled c.args.bytes.now _ c.loop-at.at (omega arith) c.loop-at.invariant.2

@@ -1,0 +1,16 @@
+-- `state_at` reads the five words of a state; where they do not lie within the slice there is no such state.
+use mathlib.Core.Path.{sym}
+use native.Mathlib.Omega.{arith}
+use lib.ListN.{get_or-eq_default}
+use Rattle.rules.specs.Table.{no_state}
+use Rattle.words.specs.Tables.{table_of}
+use Rattle.words.proofs.Tables.{length_table_of, row_at}
+use Rattle.words.proofs.state_at.Goals as goal
+
+pub returns-then-words-at : goal.returns-then-words-at
+returns-then-words-at c =
+    let ws = c.args.words.now in
+    sym (get_or-eq_default (table_of ws) no_state (omega (arith, length_table_of ws)))
+
+pub returns : goal.returns
+returns c = sym (row_at _ _ _ (omega arith))
