@@ -1,6 +1,6 @@
 -- Tables whose contents are renamed. A table that rises, each of whose states has units, is known by what it is worth to every weight; so contents may be renamed in one step or in two, and the units of
 -- contents are those of all that are renamed to it. How many contents a table has is how many masks have units.
-use mathlib.Core.Path.{◌≡◌, refl, sym, ap, ap₂, ◌∙◌}
+use mathlib.Core.Path.{◌≡◌, refl, sym, ap, ap₂, ◌∙◌, subst}
 use mathlib.Core.Logic.{◌≢◌, ◌⊎◌, inl, inr}
 use mathlib.Core.Bool.{Bool, true, false, cond, ◌&&◌, true≢false}
 use mathlib.Core.List.{List, [], ◌∷◌, map}
@@ -295,6 +295,6 @@ contents_count n (s ∷ t ∷ T) r a b = go (listed_first t.mask (contents T)) (
     go : (Es : List ℕ) × (listed t.mask (contents T) ≡ t.mask ∷ Es) → (b₁ : Bool) → eqb s.mask t.mask ≡ b₁ → length (contents (t ∷ T)) ≡ having n (t ∷ T)
         → length (listed s.mask (contents (t ∷ T))) ≡ having n (s ∷ t ∷ T)
     go (Es, first) true e ih =
-        rw (first, e) (sym (ap length first) ∙ ih ∙ as_many n s (t ∷ T) a.0 b.0 (rw (eqb-true s.mask t.mask e) next))
+        rw (first, e) (sym (ap length first) ∙ ih ∙ as_many n s (t ∷ T) a.0 b.0 (subst (λ (m : ℕ). 0 < units_in m (t ∷ T)) (sym (eqb-true s.mask t.mask e)) next))
     go (Es, first) false e ih =
         rw (first, e) (omega (arith, ap length first, ih, one_more_lem n s (t ∷ T) a.0 b.0 (units_none s.mask (t ∷ T) (higher (eqb-false s.mask t.mask e)))))

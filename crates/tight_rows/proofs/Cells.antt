@@ -1,6 +1,6 @@
 -- Tables by cells. The units of a table's states that pass a test, by contents, misses and filled numbers: what is added is added there, whatever else is in the table, and
 -- moves take them along. A cell is such a sum. A table that rises, has no state of 0 units, and has one kind of filled numbers for each miss count is known by its cells.
-use Rattle.std.proofs.Common.{◌≡◌, ℕ, ◌+◌, ◌*◌, ◌≤◌, Bool, true, false, cond, ◌&&◌, eqb, ltb, ◌≢◌, List, [], ◌∷◌, ◌++◌, map, sym, refl, ap, ◌∙◌, ap₂, pos_of_ne-zero, arith, eq-eqb, eqb-true}
+use Rattle.std.proofs.Common.{◌≡◌, ℕ, ◌+◌, ◌*◌, ◌≤◌, Bool, true, false, cond, ◌&&◌, eqb, ltb, ◌≢◌, List, [], ◌∷◌, ◌++◌, map, sym, refl, ap, ◌∙◌, ap₂, pos_of_ne-zero, arith, eq-eqb, eqb-true, subst}
 use Rattle.basics.specs.Sums.{sum_over}
 use Rattle.basics.proofs.Bools.{and_left, and_right}
 use Rattle.basics.proofs.Sums.{sum_append}
@@ -246,7 +246,9 @@ module _ (F : ℕ → Filled) where
           rest_none x y = rw (x, y) second
 
           here : s.mask ≡ t.mask → s.misses ≡ t.misses → cell s.mask s.misses (t ∷ T) ≡ units_of t + cell s.mask s.misses T
-          here x y = rw (x, y) (cell_here t T)
+          here x y =
+              subst (λ (C : ℕ). cell C s.misses (t ∷ T) ≡ units_of t + cell C s.misses T) (sym x)
+              (subst (λ (m : ℕ). cell t.mask m (t ∷ T) ≡ units_of t + cell t.mask m T) (sym y) (cell_here t T))
 
           alike : s.mask ≡ t.mask → s.misses ≡ t.misses → s.filled ≡ t.filled → units_of s ≡ units_of t → s ≡ t
           alike x y z u = ap (λ (C : ℕ). state C s.misses s.filled (units_of s)) x

@@ -16,64 +16,60 @@ use Rattle.live.proofs.Lives.{Held, held_none, held_all, node_done, run_fits, of
 use Rattle.live.proofs.fill_starts.Statement.{statement}
 use Rattle.live.proofs.fill_starts.Tie as tie
 
-abbrev invariant-loop : tie.invariant-loop
-invariant_loop starts₀ tracked runs accesses edges to₀ v₀ starts to v =
+abbrev invariant-loop : tie.invariant-loop-v
+invariant-loop starts₀ tracked runs accesses edges to₀ v₀ starts to v =
     (v ≤ length runs) × (length starts ≡ length starts₀) × (to ≤ length accesses) × (to ≡ offset runs v) × Held (graph_of tracked runs accesses edges) (drop (length runs) starts₀) v starts
 
-abbrev decreases-loop : tie.decreases-loop
-decreases_loop starts₀ tracked runs accesses edges to₀ v₀ starts to v = v
+abbrev decreases-loop : tie.decreases-loop-v
+decreases-loop starts₀ tracked runs accesses edges to₀ v₀ starts to v = v
 
 -- what the call is handed
-abbrev given : tie.Start invariant_loop decreases_loop → Input
+abbrev given : tie.Start invariant-loop decreases-loop → Input
 given s = let a = s.args in graph_of a.tracked.now a.runs.now a.accesses.now a.edges.now
 
-loop-holds : tie.Need-loop-init invariant_loop decreases_loop
+loop-holds : tie.Need-loop-v-init invariant-loop decreases-loop
 loop-holds c =
-    let s = c.before.before.before.before.before in
-    (search rules, refl, search rules, sym s.requires.2 ∙ offset_all s.args.runs.now, held_none (given s) s.args.starts.now)
+    (search rules, refl, search rules, sym c.requires.2 ∙ offset_all c.args.runs.now, held_none (given c.before.before.before.before.before) c.args.starts.now)
 
 -- where the next run stands
-fits : (c : tie.In-loop invariant_loop decreases_loop) →
-    let l = c.before.loop in
-    let ns = c.before.before.before.before.before.before.before.args.runs.now in
+fits : (c : tie.In-loop-v invariant-loop decreases-loop) →
+    let l = c.loop-v in
+    let ns = c.args.runs.now in
     get_or ns (l.v - 1) 0 + offset ns (l.v - 1) ≡ l.to
 fits c =
-    let l = c.before.loop in
-    run_fits (given c.before.before.before.before.before.before.before) l.v l.to c.loop-test.true l.invariant.0 l.invariant.3
+    let l = c.loop-v in
+    run_fits (given c.before.before.before.before.before.before.before) l.v l.to c.loop-v-test.true l.invariant.0 l.invariant.3
 
-sub-from : tie.Need-overflow-sub-from invariant_loop decreases_loop
+sub-from : tie.Need-overflow_sub-from invariant-loop decreases-loop
 sub-from c = omega (arith, fits c.before)
 
-loop-again : tie.Need-loop-preserved invariant_loop decreases_loop
+loop-again : tie.Need-loop-v-preserved invariant-loop decreases-loop
 loop-again c =
-    let n = c.before.before in
-    let t = n.before.before.before.before in
-    let l = t.before.loop in
-    let s = t.before.before.before.before.before.before.before in (
+    let l = c.loop-v in
+    (
       omega (arith, l.invariant.0),
       length-set l.starts (l.v - 1) _ ∙ l.invariant.1,
       omega (arith, l.invariant.2),
-      omega (arith, fits t),
-      node_done (given s) l.starts _ l.v l.to t.loop-test.true l.invariant.0 (omega (arith, l.invariant.0, l.invariant.1, s.requires.1)) l.invariant.3 l.invariant.4 _ _ n.after-node.ensures
+      omega (arith, fits c.before.before.before.before.before),
+      node_done (given c.before.before.before.before.before.before.before.before.before.before.before.before) l.starts _ l.v l.to c.loop-v-test.true l.invariant.0 (omega (arith, l.invariant.0, l.invariant.1, c.requires.1)) l.invariant.3 l.invariant.4 _ _ c.after_node-behind.ensures
           c.living.ensures,
     )
 
-returns : tie.Need-returns invariant_loop decreases_loop
+returns : tie.Need-returns invariant-loop decreases-loop
 returns c =
-    let s = c.before.before.before.before.before.before.before in
-    held_all (given s) c.before.loop.starts _ c.before.loop.v c.loop-test.false c.before.loop.invariant.4
+    held_all (given c.before.before.before.before.before.before.before) c.loop-v.starts _ c.loop-v.v c.loop-v-test.false c.loop-v.invariant.4
 
-pub fill-starts-spec : {M : Type 1} → statement M
-fill-starts-spec =
+pub fill_starts_spec : {M : Type 1} → statement M
+fill_starts_spec =
     tie.close
     (tie.spec
-    invariant_loop
-    decreases_loop
+    invariant-loop
+    decreases-loop
     loop-holds
     (λ c. search rules)
     (λ c. search rules)
     (λ c. search rules)
-    (λ c. omega (arith, c.shared-slice-known5.given (c.before.before.loop.v - 1)))
+    (λ c. omega (arith, c.shared_slice_known-in-loop-v-1.given (c.loop-v.v - 1)))
     sub-from
     (λ c. search rules)
     (λ c. search rules)

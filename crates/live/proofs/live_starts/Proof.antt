@@ -15,22 +15,21 @@ abbrev given : tie.Start → Input
 given s = let a = s.args in graph_of a.tracked.now a.runs.now a.accesses.now a.edges.now
 
 -- it is accepted
-passes : (c : tie.After-starts) → Accepted ≡ verdict (given c.before.before.before.before.before.before.before.before)
-passes c = sym c.before.enum-told2.given.1 ∙ c.before.before.before.judge.ensures
+passes : (c : tie.After-starts-1) → Accepted ≡ verdict (given c.before.before.before.before.before.before.before)
+passes c = sym c.in-Accepted.is ∙ c.judge.ensures
 
-fill-starts-requires : tie.Need-fill-starts-requires
+fill-starts-requires : tie.Need-fill_starts-requires
 fill-starts-requires c κs = let ok = checked _ (passes c) in (ok.few_tracked, ok.few_nodes, ok.all_accesses)
 
-returns : tie.Need-returns
-returns c = starts_refused _ _ (sym c.enum_told.given.1 ∙ c.before.before.judge.ensures)
+returns : tie.Need-returns-in-Refused
+returns c = starts_refused _ _ (sym c.in-Refused.is ∙ c.judge.ensures)
 
-returns-2 : tie.Need-returns-2
+returns-2 : tie.Need-returns-in-Accepted
 returns-2 c =
-    let s = c.before.before in
-    starts_found _ _ (passes s) (checked _ (passes s)).few_nodes c.before.fill-starts.ensures
+    starts_found _ _ (passes c.before.before) (checked _ (passes c.before.before)).few_nodes c.fill_starts.ensures
 
-pub live-starts-spec : {M : Type 1} → statement M
-live-starts-spec =
+pub live_starts_spec : {M : Type 1} → statement M
+live_starts_spec =
     tie.close
     (tie.spec
     (λ c κs. search rules)

@@ -17,32 +17,31 @@ given s =
     input_of a.cache a.limit a.tracked.now a.runs.now a.accesses.now a.edges.now
 
 -- it is accepted
-passes : (c : tie.After-ends) → Accepted ≡ verdict (given c.before.before.before.before.before.before.before.before)
-passes c = sym c.before.enum_told.given.1 ∙ c.before.before.before.judge.ensures
+passes : (c : tie.After-ends-1) → Accepted ≡ verdict (given c.before.before.before.before.before.before.before)
+passes c = sym c.in-Accepted.is ∙ c.judge.ensures
 
-ok : (c : tie.After-ends) → Checked (given c.before.before.before.before.before.before.before.before)
+ok : (c : tie.After-ends-1) → Checked (given c.before.before.before.before.before.before.before)
 ok c = checked _ (passes c)
 
-find-ends-requires : tie.Need-find-ends-requires
-find-ends-requires c κs = ((ok c).few_nodes, ends_fit (given c.before.before.before.before.before.before.before.before) (ok c))
+find-ends-requires : tie.Need-find_ends-requires
+find-ends-requires c κs = ((ok c).few_nodes, ends_fit (given c.before.before.before.before.before.before.before) (ok c))
 
-sub-last : tie.Need-overflow-sub-last
+sub-last : tie.Need-overflow_sub-last
 sub-last c = (ok c.before.before).some_nodes
 
-array-read-last : tie.Need-array-read-last
+array-read-last : tie.Need-bounds-ends-runs
 array-read-last c = omega (arith, (ok c.before.before).few_nodes, (ok c.before.before).some_nodes)
 
-returns : tie.Need-returns
+returns : tie.Need-returns-in-Refused
 returns c =
-    answer_refused (given c.before.before.before.before.before.before.before.before) _ _ c.before.before.before.judge.ensures c.before.reason.given.1
+    answer_refused (given c.before.before.before.before.before.before) _ _ c.judge.ensures c.in-Refused.is
 
-returns-2 : tie.Need-returns-2
+returns-2 : tie.Need-returns-in-Accepted
 returns-2 c =
-    let e = c.before.before in
-    answer_longest (given e.before.before.before.before.before.before.before.before) _ (passes e) (ok e).some_nodes c.before.find-ends.ensures
+    answer_longest (given c.before.before.before.before.before.before.before.before.before) _ (passes c.before.before) (ok c.before.before).some_nodes c.find_ends.ensures
 
-pub longest-path-spec : {M : Type 1} → statement M
-longest-path-spec =
+pub longest_path_spec : {M : Type 1} → statement M
+longest_path_spec =
     tie.close
     (tie.spec
     (λ c κs. search rules)

@@ -14,38 +14,36 @@ use Rattle.tight_refusals.proofs.judge_tight.Tie as tie
 abbrev given : tie.Start → Asked
 given s =
     let a = s.args in
-    asked_in a.cache a.contents a.cells a.tracked.now a.runs.now a.accesses.now a.edges.now a.result_room_fact a.working_room_fact
+    asked_in a.cache a.contents a.cells a.tracked.now a.runs.now a.accesses.now a.edges.now a.result_room a.working_room
 
 -- no reason before the rooms applies
-passes : (c : tie.After-enum-told) → Accepted ≡ first (before_rooms (given c.before.before.before.before.before.before.before))
+passes : (c : tie.In-Accepted) → Accepted ≡ first (before_rooms (given c.before.before.before.before.before.before))
 unfolding before_rooms
-passes c = sym c.enum_told.given.1 ∙ c.before.before.judge-graph.ensures
+passes c = sym c.in-Accepted.is ∙ c.judge_graph.ensures
 
-returns : tie.Need-returns
-returns c = short_result _ (passes c.before) c.if1.true
+returns : tie.Need-returns-then-result_room-accesses
+returns c = short_result _ (passes c.before) c.if-result_room-accesses.true
 
-words-needed-requires : tie.Need-words-needed-requires
+words-needed-requires : tie.Need-words_needed-requires
 words-needed-requires c κs =
     let f = few _ (passes c.before) in (f.contents, f.cells, f.graph.few_tracked, f.graph.few_nodes, f.graph.few_accesses)
 
-returns-2 : tie.Need-returns-2
+returns-2 : tie.Need-returns-then-working_room-words_needed
 unfolding room_needed table_words
 returns-2 c =
-    let l = c.before.before in
-    short_working _ (passes l.before) l.if1.false _ c.before.words-needed.ensures c.if2.true
+    short_working _ (passes c.before.before.before) c.if-result_room-accesses.false _ c.words_needed.ensures c.if-working_room-words_needed.true
 
-returns-3 : tie.Need-returns-3
+returns-3 : tie.Need-returns-in-Refused
 unfolding before_rooms
-returns-3 c = refused_before _ _ (sym c.before.reason.given.1 ∙ c.before.before.before.judge-graph.ensures)
+returns-3 c = refused_before _ _ (sym c.in-Refused.is ∙ c.judge_graph.ensures)
 
-returns-4 : tie.Need-returns-4
+returns-4 : tie.Need-returns-else-working_room-words_needed
 unfolding room_needed table_words
 returns-4 c =
-    let l = c.before.before in
-    long_enough_lem _ (passes l.before) l.if1.false _ c.before.words-needed.ensures c.if2.false
+    long_enough_lem _ (passes c.before.before.before) c.if-result_room-accesses.false _ c.words_needed.ensures c.if-working_room-words_needed.false
 
-pub judge-tight-spec : {M : Type 1} → statement M
-judge-tight-spec =
+pub judge_tight_spec : {M : Type 1} → statement M
+judge_tight_spec =
     tie.close
     (tie.spec
     (λ c κs. search rules)

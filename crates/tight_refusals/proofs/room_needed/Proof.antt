@@ -17,21 +17,21 @@ given s =
     asked_in a.cache a.contents a.cells a.tracked.now a.runs.now a.accesses.now a.edges.now 0 0
 
 -- it is accepted
-passes : (c : tie.After-enum-told2) → Accepted ≡ first (before_rooms (given c.before.before.before.before.before.before.before))
-passes c = sym c.enum-told2.given.1 ∙ c.before.before.judge-graph.ensures
+passes : (c : tie.In-Accepted) → Accepted ≡ first (before_rooms (given c.before.before.before.before.before.before))
+passes c = sym c.in-Accepted.is ∙ c.judge_graph.ensures
 
-words-needed-requires : tie.Need-words-needed-requires
+words-needed-requires : tie.Need-words_needed-requires
 words-needed-requires c κs =
     let f = few _ (passes c) in (f.contents, f.cells, f.graph.few_tracked, f.graph.few_nodes, f.graph.few_accesses)
 
-returns : tie.Need-returns
-returns c = none_needed _ _ (sym c.enum_told.given.1 ∙ c.before.before.judge-graph.ensures)
+returns : tie.Need-returns-in-Refused
+returns c = none_needed _ _ (sym c.in-Refused.is ∙ c.judge_graph.ensures)
 
-returns-2 : tie.Need-returns-2
+returns-2 : tie.Need-returns-in-Accepted
 unfolding room_needed table_words
-returns-2 c = needed _ (passes c.before) _ c.words-needed.ensures
+returns-2 c = needed _ (passes c.before) _ c.words_needed.ensures
 
-pub room-needed-spec : {M : Type 1} → statement M
-room-needed-spec =
+pub room_needed_spec : {M : Type 1} → statement M
+room_needed_spec =
     tie.close
     (tie.spec (λ c κs. search rules) (λ c. search rules) (λ c. search rules) words-needed-requires returns returns-2)

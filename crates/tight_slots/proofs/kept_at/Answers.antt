@@ -15,11 +15,11 @@ loop-u-init c = omega arith
 next : (c : After-passing-kept) →
     let a = c.args in
     let l = c.loop-u in
-    l.auto + c.passing-kept.result + kept_below (edges_of a.edges.now) a.v (l.u - 1) ≡ kept_below (edges_of a.edges.now) a.v a.v
+    l.kept + c.passing-kept.result + kept_below (edges_of a.edges.now) a.v (l.u - 1) ≡ kept_below (edges_of a.edges.now) a.v a.v
 next c =
     let a = c.args in
     let l = c.loop-u in
-    kept_next (edges_of a.edges.now) a.v l.u l.auto _ _ l.invariant c.loop-u-test.true c.passing-kept.ensures
+    kept_next (edges_of a.edges.now) a.v l.u l.kept _ _ l.invariant c.loop-u-test.true c.passing-kept.ensures
 
 pub overflow_add-kept : goal.overflow_add-kept
 overflow_add-kept c =
@@ -32,4 +32,4 @@ returns c =
     kept_end (edges_of a.edges.now) a.v _ _ _ c.loop-u.invariant c.loop-u-test.false
 
 pub loop-u-preserved : goal.loop-u-preserved
-loop-u-preserved = next
+loop-u-preserved c = next (goal.at.loop-u-preserved c).After-passing-kept

@@ -20,8 +20,8 @@ note-requires c =
     let cleared-room = c.clear in
     let ws = c.args.words.now in
     let hits = c.args.of_hits in
-    let n = length cleared-room.new.0 in
-    let long : largest (count_of hits) (table_of ws) < n = rw cleared-room.auto.0 c.requires.0 in
+    let n = length cleared-room.new.words in
+    let long : largest (count_of hits) (table_of ws) < n = rw cleared-room.auto.words c.requires.0 in
     let s = c.best_at-s in (
       rw l.invariant.1 (has_place (count_of hits) ws l.i c.loop-i-test.true s.result s.ensures n l.room l.invariant.2 long),
       has_room_lem (count_of hits) ws l.i c.loop-i-test.true s.result s.ensures n l.room l.invariant.2 long c.requires.1,
@@ -33,8 +33,8 @@ loop-i-preserved c =
     let cleared-room = c.clear in
     let ws = c.args.words.now in
     let hits = c.args.of_hits in
-    let n = length cleared-room.new.0 in
-    let long : largest (count_of hits) (table_of ws) < n = rw cleared-room.auto.0 c.requires.0 in
+    let n = length cleared-room.new.words in
+    let long : largest (count_of hits) (table_of ws) < n = rw cleared-room.auto.words c.requires.0 in
     let s = c.best_at-s in (
       search rules,
       c.note.auto.room ∙ l.invariant.1,

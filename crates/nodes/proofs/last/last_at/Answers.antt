@@ -9,4 +9,4 @@ pub returns-then-node-lt64 : goal.returns-then-node-lt64
 returns-then-node-lt64 c = refl
 
 pub returns : goal.returns
-returns c = sym (get_or-eq_default c.args.t1 unknown {n = c.args.node} (omega (arith, c.well-formed.0, c.if-node-lt64.false)))
+returns c = sym (get_or-eq_default c.args.lasts unknown {n = c.args.node} (omega (arith, c.well_formed.0, c.if-node-lt64.false)))

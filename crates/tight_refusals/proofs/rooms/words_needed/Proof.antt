@@ -12,43 +12,37 @@ use Rattle.tight_refusals.proofs.rooms.words_needed.Statement.{statement}
 use Rattle.tight_refusals.proofs.rooms.words_needed.Tie as tie
 
 -- no more tables are kept than there are nodes
-few-tables : (c : tie.After-most-kept) → c.most-kept.result ≤ 64
+few-tables : (c : tie.After-most_kept-tables) → c.most_kept-tables.result ≤ 64
 few-tables c =
-    let s = c.before.before.before.before.before.before in
-    omega (arith, c.most-kept.ensures, most_few (edges_of s.args.edges.now) (length s.args.runs.now), s.requires.3)
+    omega (arith, c.most_kept-tables.ensures, most_few (edges_of c.args.edges.now) (length c.args.runs.now), c.requires.3)
 
-add-tables : tie.Need-overflow-add-tables
+add-tables : tie.Need-overflow_add-tables
 add-tables c = omega (arith, few-tables c)
 
-all-tables : (c : tie.After-table-words) → (c.before.most-kept.result + 3) * c.table-words.result ≤ 67 * 16801800
+all-tables : (c : tie.After-table_words) → (c.most_kept-tables.result + 3) * c.table_words.result ≤ 67 * 16801800
 all-tables c =
-    let r = c.before.before in
-    let s = r.before.before.before.before.before in
-    tables_most c.before.most-kept.result s.args.contents r.row-cells.result _ (few-tables c.before) s.requires.0 (omega (arith, r.row-cells.ensures, s.requires.1)) c.table-words.ensures
+    tables_most c.most_kept-tables.result c.args.contents c.row_cells-row.result _ (few-tables c.before) c.requires.0 (omega (arith, c.row_cells-row.ensures, c.requires.1)) c.table_words.ensures
 
-mul-result : tie.Need-overflow-mul-result
+mul-result : tie.Need-overflow_mul-result
 mul-result c = omega (arith, all-tables c)
 
-add-result : tie.Need-overflow-add-result
+add-result : tie.Need-overflow_add-result
 add-result c =
-    let r = c.before.before.before in
-    let s = r.before.before.before.before.before in
     omega (
       arith,
       all-tables c.before,
-      beside_most s.args.contents r.row-cells.result (length s.args.tracked.now) _ s.requires.0 (omega (arith, r.row-cells.ensures, s.requires.1)) s.requires.2 c.words-beside.ensures,
+      beside_most c.args.contents c.row_cells-row.result (length c.args.tracked.now) _ c.requires.0 (omega (arith, c.row_cells-row.ensures, c.requires.1)) c.requires.2 c.words_beside.ensures,
     )
 
 returns : tie.Need-returns
 returns c =
-    let r = c.before.before.before in
-    let a = r.before.before.before.before.before.args in
+    let a = c.args in
     words_are (asked_in (cache 0 0 0 Cold) a.contents a.cells a.tracked.now a.runs.now a.accesses.now a.edges.now 0 0)
-    c.before.before.most-kept.result r.row-cells.result _ _
-    c.before.before.most-kept.ensures r.row-cells.ensures c.before.table-words.ensures c.words-beside.ensures
+    c.most_kept-tables.result c.row_cells-row.result _ _
+    c.most_kept-tables.ensures c.row_cells-row.ensures c.table_words.ensures c.words_beside.ensures
 
-pub words-needed-spec : {M : Type 1} → statement M
-words-needed-spec =
+pub words_needed_spec : {M : Type 1} → statement M
+words_needed_spec =
     tie.close
     (tie.spec
     (λ c κs. search rules)

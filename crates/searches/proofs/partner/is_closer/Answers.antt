@@ -1,0 +1,9 @@
+-- `is_closer` tests for another place, and then for a better partner.
+use borrow.Author.Tests.{eq-eqb, ne_eqb}
+use Rattle.searches.proofs.partner.is_closer.Goals as goal
+
+pub returns-then-j-at : goal.returns-then-j-at
+returns-then-j-at c = rw (eq-eqb _ _ c.if-j-at.true)
+
+pub returns : goal.returns
+returns c = rw (ne_eqb _ _ c.if-j-at.false, ← c.load.ensures) c.closer.ensures
