@@ -11,38 +11,29 @@ use Rattle.tight_tables.proofs.answer.answer_row.Tie as tie
 abbrev grid : tie.Start → Grid
 grid s = let a = s.args in grid_of a.contents a.cells a.slot (words_of a.work.now)
 
-add-contents-requires : tie.Need-add-contents-requires
+add-contents-requires : tie.Need-add_contents-requires
 add-contents-requires c κs =
-    let clear = c.before.before.before in
-    let s = clear.before.before.before.before in
-    (rw clear.clear-row.ensures.long s.requires.0, zeros_clear s.args.res.now _ clear.clear-row.ensures)
+    (rw c.clear_row.ensures.long c.requires.0, zeros_clear c.args.res.now _ c.clear_row.ensures)
 
 -- the columns stand in the row that was cleared
-columns : (c : tie.After-shared-slice-known2) →
-    let added = c.before.before.before.before in
-    let s = added.before.before.before.before.before.before.before.before in
-    ColumnsIn (grid s) (grid s).count s.args.res.now added.add-contents.new.0
+columns : (c : tie.After-shared_slice_known-2-1) →
+    ColumnsIn (grid c.before.before.before.before.before.before.before.before.before.before.before.before) (grid c.before.before.before.before.before.before.before.before.before.before.before.before).count c.args.res.now c.add_contents.new.res
 columns c =
-    let added = c.before.before.before.before in
-    let clear = added.before.before.before.before in
-    let s = clear.before.before.before.before in
-    columns_since (grid s) (grid s).count _ _ _ clear.clear-row.ensures.long added.add-contents.ensures
+    columns_since (grid c.before.before.before.before.before.before.before.before.before.before.before.before) (grid c.before.before.before.before.before.before.before.before.before.before.before.before).count _ _ _ c.clear_row.ensures.long c.add_contents.ensures
 
-add-result-2 : tie.Need-overflow-add-result-2
+add-result-2 : tie.Need-overflow_add-res-2
 add-result-2 c =
-    let s = c.before.before.before.before.before.before.before.before.before.before.before.before in
-    record { fits = lost_fits (grid s) s.args.longest s.args.res.now _ (columns c) s.requires.1 s.requires.0.full }
+    record { fits = lost_fits (grid c.before.before.before.before.before.before.before.before.before.before.before.before) c.args.longest c.args.res.now _ (columns c) c.requires.1 c.requires.0.full }
 
-same_length : tie.Need-same-length
+same_length : tie.Need-shape_of-res
 same_length c = simp length-set (columns c).long
 
 returns : tie.Need-returns
 returns c =
-    let s = c.before.before.before.before.before.before.before.before.before.before.before.before in
-    answer_is (grid s) s.args.longest s.args.res.now _ (columns c) s.requires.1
+    answer_is (grid c.before.before.before.before.before.before.before.before.before.before.before.before) c.args.longest c.args.res.now _ (columns c) c.requires.1
 
-pub answer-row-spec : {M : Type 1} → statement M
-answer-row-spec =
+pub answer_row_spec : {M : Type 1} → statement M
+answer_row_spec =
     tie.close
     (tie.spec
     (λ c κs. search rules)

@@ -11,42 +11,39 @@ use Rattle.tight_tables.proofs.Copying.{rows_apart}
 use Rattle.tight_tables.proofs.copy.live_row.Statement.{statement}
 use Rattle.tight_tables.proofs.copy.live_row.Tie as tie
 
-add_row : tie.Need-overflow-add-row
+add_row : tie.Need-overflow_add-row
 add_row c =
-    let s = c.before.before in
-    let a = s.args in
-    omega (arith, and_le_r (words_of a.work.now (a.from + 4 + a.k)) a.live, s.requires.1)
+    let a = c.args in
+    omega (arith, and_le_r (words_of a.work.now (a.from + 4 + a.k)) a.live, c.requires.1)
 
-shared-slice-read-row : tie.Need-shared-slice-read-row
+shared-slice-read-row : tie.Need-bounds-work-o
 shared-slice-read-row c =
-    let s = c.before.before.before in
-    let a = s.args in
-    omega (arith, and_le_r (words_of a.work.now (a.from + 4 + a.k)) a.live, s.requires.1)
+    let a = c.args in
+    omega (arith, and_le_r (words_of a.work.now (a.from + 4 + a.k)) a.live, c.requires.1)
 
-mul-row : tie.Need-overflow-mul-row
+mul-row : tie.Need-offset_bounds-work-o
 mul-row c =
-    let s = c.before.before in
-    let a = s.args in
-    omega (arith, and_le_r (words_of a.work.now (a.from + 4 + a.k)) a.live, s.requires.1)
+    let a = c.args in
+    omega (arith, and_le_r (words_of a.work.now (a.from + 4 + a.k)) a.live, c.requires.1)
 
 -- the row ends in the slot
 row-end : (s : tie.Start) → let a = s.args in let r = row_for a.o a.from a.live (words_of a.work.now) a.k in r * a.o.cells + a.o.cells ≤ a.o.contents * a.o.cells
 row_end s = let a = s.args in rows_apart a.o.cells (row_for a.o a.from a.live (words_of a.work.now) a.k) a.o.contents s.requires.3
 
-mul-result-3 : tie.Need-overflow-mul-result-3
+mul-result-3 : tie.Need-overflow_mul-result-3
 unfolding shared
-mul-result-3 c = let s = c.before.before.before.before.before.before.before in omega (arith, row_end s, s.requires.2)
+mul-result-3 c = omega (arith, row_end c, c.requires.2)
 
-add-result-4 : tie.Need-overflow-add-result-4
+add-result-4 : tie.Need-overflow_add-result-4
 unfolding shared
-add-result-4 c = let s = c.before.before.before.before.before.before.before in omega (arith, row_end s, s.requires.2)
+add-result-4 c = omega (arith, row_end c, c.requires.2)
 
 returns : tie.Need-returns
 unfolding shared
 returns c = refl
 
-pub live-row-spec : {M : Type 1} → statement M
-live-row-spec =
+pub live_row_spec : {M : Type 1} → statement M
+live_row_spec =
     tie.close
     (tie.spec
     (λ c. search rules)

@@ -10,69 +10,64 @@ use Rattle.tight_tables.proofs.Copying.{SumsTo, slot_inside, no_sums_yet, words_
 use Rattle.tight_tables.proofs.copy.sum_live.Statement.{statement}
 use Rattle.tight_tables.proofs.copy.sum_live.Tie as tie
 
-abbrev invariant-loop : tie.invariant-loop
-invariant_loop work₀ o from live count₀ k₀ work k = (k ≤ words_of work₀ (count_at from)) × (length work ≡ length work₀) × SumsTo o from live k work₀ work
+abbrev invariant-loop : tie.invariant-loop-k
+invariant-loop work₀ o from live count₀ k₀ work k = (k ≤ words_of work₀ (count_at from)) × (length work ≡ length work₀) × SumsTo o from live k work₀ work
 
-abbrev decreases-loop : tie.decreases-loop
-decreases_loop work₀ o from live count₀ k₀ work k = words_of work₀ (count_at from) - k
+abbrev decreases-loop : tie.decreases-loop-k
+decreases-loop work₀ o from live count₀ k₀ work k = words_of work₀ (count_at from) - k
 
 -- the slot ends in the room
-ends : (s : tie.Start invariant_loop decreases_loop) → let a = s.args in a.from + (4 + 2 * a.o.contents + 2 * a.o.cells + a.o.contents * a.o.cells) ≤ length a.work.now
+ends : (s : tie.Start invariant-loop decreases-loop) → let a = s.args in a.from + (4 + 2 * a.o.contents + 2 * a.o.cells + a.o.contents * a.o.cells) ≤ length a.work.now
 ends s = let a = s.args in slot_inside a.o a.from a.live a.work.now s.requires.0
 
-loop-holds : tie.Need-loop-init invariant_loop decreases_loop
-loop-holds c = let s = c.before.before in let a = s.args in (search rules, refl, no_sums_yet a.o a.from a.live a.work.now s.requires.0)
+loop-holds : tie.Need-loop-k-init invariant-loop decreases-loop
+loop-holds c = let a = c.args in (search rules, refl, no_sums_yet a.o a.from a.live a.work.now c.requires.0)
 
 -- the words of contents k are there
-inside : (c : tie.In-loop invariant_loop decreases_loop) →
-    let a = c.before.before.before.before.args in
-    a.from + 4 + a.o.contents + c.before.loop.k < length c.before.loop.work
+inside : (c : tie.In-loop-k invariant-loop decreases-loop) →
+    let a = c.args in
+    a.from + 4 + a.o.contents + c.loop-k.k < length c.loop-k.work
 inside c =
-    let l = c.before.loop in
-    let s = c.before.before.before.before in
-    let a = s.args in
-    words_there a.o a.from a.live a.work.now s.requires.0 l.k c.loop-test.true l.work l.invariant.2
+    let l = c.loop-k in
+    let a = c.args in
+    words_there a.o a.from a.live a.work.now c.requires.0 l.k c.loop-k-test.true l.work l.invariant.2
 
-loop-again : tie.Need-loop-preserved invariant_loop decreases_loop
+loop-again : tie.Need-loop-k-preserved invariant-loop decreases-loop
 loop-again c =
-    let called = c.before.before in
-    let t = called.before.before.before.before.before in
-    let l = t.before.loop in
-    let s = t.before.before.before.before in
-    let a = s.args in
-    let mask = mask_read a.o a.from a.live a.work.now s.requires.0 l.k t.loop-test.true l.work l.invariant.2 in
-    let units = units_read a.o a.from a.live a.work.now s.requires.0 l.k t.loop-test.true l.work l.invariant.2 in
-    let put = more_plain _ _ _ _ called.add-units.ensures (sum_fits a.o a.from a.live a.work.now s.requires.0 l.k t.loop-test.true l.work l.invariant.2 _ _ mask units s.requires.1) in (
+    let l = c.loop-k in
+    let a = c.args in
+    let mask = mask_read a.o a.from a.live a.work.now c.requires.0 l.k c.loop-k-test.true l.work l.invariant.2 in
+    let units = units_read a.o a.from a.live a.work.now c.requires.0 l.k c.loop-k-test.true l.work l.invariant.2 in
+    let put = more_plain _ _ _ _ c.add_units.ensures (sum_fits a.o a.from a.live a.work.now c.requires.0 l.k c.loop-k-test.true l.work l.invariant.2 _ _ mask units c.requires.1) in (
       search rules,
       rw put (length-set l.work _ _ ∙ l.invariant.1),
-      rw put (one_summed a.o a.from a.live a.work.now s.requires.0 l.k t.loop-test.true l.work l.invariant.2 _ _ mask units),
+      rw put (one_summed a.o a.from a.live a.work.now c.requires.0 l.k c.loop-k-test.true l.work l.invariant.2 _ _ mask units),
     )
 
-returns : tie.Need-returns invariant_loop decreases_loop
+returns : tie.Need-returns invariant-loop decreases-loop
 returns c =
-    let l = c.before.loop in
-    let s = c.before.before.before.before in
-    let a = s.args in
-    all_summed a.o a.from a.live a.work.now s.requires.0 l.k l.work (omega (arith, l.invariant.0, c.loop-test.false)) l.invariant.2
+    let l = c.loop-k in
+    let a = c.args in
+    all_summed a.o a.from a.live a.work.now c.requires.0 l.k l.work (omega (arith, l.invariant.0, c.loop-k-test.false)) l.invariant.2
 
-pub sum-live-spec : {M : Type 1} → statement M
-sum-live-spec =
+pub sum_live_spec : {M : Type 1} → statement M
+sum_live_spec =
     tie.close
     (tie.spec
-    invariant_loop
-    decreases_loop
-    (λ c. omega (arith, ends c.before))
-    (λ c. omega (arith, ends c.before.before))
+    invariant-loop
+    decreases-loop
+    (λ c. omega (arith, ends c))
+    (λ c. omega (arith, ends c))
     loop-holds
     (λ c. omega (arith, inside c))
     (λ c. omega (arith, inside c))
     (λ c. omega (arith, inside c))
-    (λ c. omega (arith, inside c.before))
-    (λ c. omega (arith, inside c.before))
-    (λ c. omega (arith, inside c.before.before))
-    (λ c. omega (arith, inside c.before.before))
-    (λ c. omega (arith, inside c.before.before))
-    (λ c. omega (arith, inside c.before.before.before))
+    (λ c. omega (arith, inside c))
+    (λ c. omega (arith, inside c))
+    (λ c. omega (arith, inside c))
+    (λ c. omega (arith, inside c))
+    (λ c. omega (arith, inside c))
+    (λ c. omega (arith, inside c))
     (λ c κs. search rules)
     (λ c. search rules)
     (λ c. search rules)

@@ -1,0 +1,10 @@
+-- `first_cycles` is safe and ends: each turn tries the cycles of one state, and a state's three words lie within the states. Assumes nothing.
+use Prim.Native.Nat.{◌≤◌, ◌*◌, ◌-◌}
+use lib.ListN.{length}
+use Rattle.case_questions.proofs.expected.first_cycles.Given as goal
+
+abbrev pub invariant-loop-i : goal.invariant-loop-i
+invariant-loop-i l = (l.i ≤ l.held) × (l.held * 5 ≤ length l.words)
+
+abbrev pub decreases-loop-i : goal.decreases-loop-i
+decreases-loop-i l = l.held - l.i

@@ -1,0 +1,50 @@
+-- `analyse` gives the verdict of the checks; where there is no refusal, every node is worked, each join from the front, and the last one's table handed over.
+use mathlib.Core.Path.{sym, ap, ◌∙◌}
+use native.Mathlib.Omega.{arith}
+use lib.ListN.{length}
+use Rattle.tables.proofs.Inputs.{checked_without}
+use Rattle.rules.specs.AnyTable.{Entries, no_pairings}
+use Rattle.rules.specs.Input.{input_of}
+use Rattle.rules.specs.Graph.{worked_by}
+use Rattle.rules.proofs.Refusals.{checked}
+use Rattle.rules.proofs.Entries.{no_entries}
+use Rattle.words.specs.Tables.{table_of}
+use Rattle.estimate.specs.Call.{handed}
+use Rattle.calls.proofs.Leaving.{leaves_refused, leaves_finished}
+use Rattle.estimate.proofs.Calls.{no_form, last_table, last_aside, finished_fits}
+use Rattle.estimate.proofs.analyse.Goals as goal
+
+pub work_nodes-done-requires : goal.work_nodes-done-requires
+work_nodes-done-requires c = let a = c.args in
+    let ok = checked _ (sym c.in-Accepted.is ∙ c.judge.ensures) in
+    (omega (arith, ok.working_room_fact), checked_without a.cache a.limit a.tracked.now a.runs.now a.accesses.now a.edges.now _ _ ok, no_form)
+
+pub overflow_sub-runs : goal.overflow_sub-runs
+overflow_sub-runs c = omega (arith, (checked _ (sym c.in-Accepted.is ∙ c.judge.ensures)).some_nodes)
+
+pub hand_over-states-requires : goal.hand_over-states-requires
+hand_over-states-requires c = let a = c.args in
+    let ok = checked _ (sym c.in-Accepted.is ∙ c.judge.ensures) in
+    let g = c.work_nodes-done in
+    let done = g.ensures.0 ∙ ap (λ (q : Entries). worked_by q (input_of a.cache a.limit a.tracked.now a.runs.now a.accesses.now a.edges.now) (length a.runs.now)) no_entries in
+    let table = last_table a.cache a.limit a.tracked.now a.runs.now a.accesses.now a.edges.now a.res.now a.work.now g.result.aside.0 (table_of g.new.0) ok.some_nodes no_pairings done in (
+      omega (arith, ok.few_nodes),
+      omega (arith, ok.working_room_fact, g.auto.0),
+      rw table (omega (arith, finished_fits no_pairings (handed a.cache a.limit a.tracked.now a.runs.now a.accesses.now a.edges.now a.res.now a.work.now) ok, ok.result_room_fact)),
+    )
+
+pub returns-in-Refused : goal.returns-in-Refused
+returns-in-Refused c = let a = c.args in
+    leaves_refused a.cache a.limit a.tracked.now a.runs.now a.accesses.now a.edges.now a.res.now a.work.now _ _ c.judge.ensures c.in-Refused.is
+
+pub returns-in-Accepted : goal.returns-in-Accepted
+returns-in-Accepted c = let a = c.args in
+    let accepted = sym c.in-Accepted.is ∙ c.judge.ensures in
+    let ok = checked _ accepted in
+    let g = c.work_nodes-done in
+    let h = c.hand_over-states.ensures in
+    let done = g.ensures.0 ∙ ap (λ (q : Entries). worked_by q (input_of a.cache a.limit a.tracked.now a.runs.now a.accesses.now a.edges.now) (length a.runs.now)) no_entries in
+    leaves_finished a.cache a.limit a.tracked.now a.runs.now a.accesses.now a.edges.now a.res.now a.work.now _ _ _ _ _ accepted
+    (last_table a.cache a.limit a.tracked.now a.runs.now a.accesses.now a.edges.now a.res.now a.work.now g.result.aside.0 (table_of g.new.0) ok.some_nodes no_pairings done)
+    (last_aside a.cache a.limit a.tracked.now a.runs.now a.accesses.now a.edges.now a.res.now a.work.now g.result.aside.0 (table_of g.new.0) ok.some_nodes no_pairings done)
+    h.0 h.1.0 (rw g.auto.0 at h.1.1)

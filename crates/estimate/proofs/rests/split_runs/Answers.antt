@@ -1,0 +1,102 @@
+-- `split_runs` takes the heads one by one.
+use mathlib.Core.Path.{◌≡◌, refl, sym, ◌∙◌, subst}
+use mathlib.Core.List.{List}
+use Prim.Native.Nat.{◌+◌, ◌-◌, ◌≤◌, ◌<◌}
+use native.Mathlib.Omega.{arith}
+use lib.ListN.{length, get_or, take, drop}
+use lib.Seq.{get_or-take, take_all, length-take-le}
+use Rattle.rules.specs.declared.State.{State}
+use Rattle.rules.specs.Shape.{Every}
+use Rattle.rules.specs.Step.{left_over}
+use Rattle.rules.specs.Table.{listing, units_of}
+use Rattle.rules.specs.Units.{whole}
+use Rattle.rules.proofs.Lists.{every_weaker}
+use Rattle.words.specs.Tables.{table_of}
+use Rattle.words.proofs.Tables.{fits_table}
+use Rattle.tables.proofs.Masks.{with_listed}
+use Rattle.tables.proofs.Scratch.{scratch_empty, scratch_more, scratch_rising, slot_same, stretch_long}
+use Rattle.heads.specs.Head.{length_in, start_in}
+use Rattle.estimate.specs.Following.{Workable}
+use Rattle.estimate.specs.Merging.{alone}
+use Rattle.estimate.specs.Splitting.{SplitIn}
+use Rattle.estimate.specs.ToCome.{Whole}
+use Rattle.estimate.proofs.LeftOver.{split_kept, rests_none, left_none_yet, rests_next, left_next, every_next, rests_rising, rests_all, left_all, rests_room, left_room, head_whole}
+use borrow.Author.Rules.{rules}
+use Rattle.estimate.proofs.rests.split_runs.Goals as goal
+
+pub loop-i-init : goal.loop-i-init
+loop-i-init c = let a = c.args in
+    let W = table_of a.work.now in
+    let T = take a.m (drop a.from W) in
+    let hs = take a.count a.heads.now in (
+      search rules,
+      refl,
+      refl,
+      rw (rests_none T hs (alone a.ways a.x)) (scratch_empty W),
+      sym (left_none_yet T hs (left_over a.ways a.x)),
+      tt,
+    )
+
+pub split_if-so_far-requires : goal.split_if-so_far-requires
+split_if-so_far-requires c = let a = c.args in let p = c.requires in
+    let l = c.loop-i in
+    let test = c.loop-i-test in
+    let own = c.with_block-own in
+    let W = table_of a.work.now in
+    let T = take a.m (drop a.from W) in
+    let hs = take a.count a.heads.now in
+    let long = stretch_long a.from a.m W (omega (arith, p.3, fits_table a.work.now 4096 (omega (arith, p.4)))) in
+    let low : l.i < length hs = omega (arith, test.true, length-take-le a.count a.heads.now p.5) in
+    let same = slot_same listing _ _ _ _ l.invariant.3 a.from a.m p.3 in (
+      p.0,
+      p.1,
+      with_listed 0 a.x.place p.0.0 _ own.ensures,
+      p.2,
+      p.3,
+      omega (arith, p.4, l.invariant.1),
+      omega (arith, p.6, l.invariant.2),
+      omega (arith, p.2, long, rests_room T hs a.ways a.x p.8 (alone a.ways a.x) l.i l.so_far.states l.invariant.3.count),
+      omega (arith, p.2, long, l.invariant.4, left_room T hs a.ways a.x p.8 (every_weaker (Workable a.ways a.x) (λ s. units_of s ≤ whole) (λ s q. q.1) T p.7) l.i),
+      scratch_rising listing _ _ _ _ l.invariant.3 (rests_rising T hs (alone a.ways a.x) l.i),
+      rw same p.7,
+      rw (same, ← get_or-take a.count a.heads.now l.i 0 test.true) (head_whole T hs a.ways a.x p.8 l.i low),
+    )
+
+pub loop-i-preserved : goal.loop-i-preserved
+loop-i-preserved c = let a = c.args in let p = c.requires in
+    let l = c.loop-i in
+    let test = c.loop-i-test in
+    let r = c.split_if-so_far in
+    let e = r.ensures in
+    let W = table_of a.work.now in
+    let T = take a.m (drop a.from W) in
+    let hs = take a.count a.heads.now in
+    let h = get_or a.heads.now l.i 0 in
+    let low : l.i < length hs = omega (arith, test.true, length-take-le a.count a.heads.now p.5) in
+    let there : h ≡ get_or hs l.i 0 = sym (get_or-take a.count a.heads.now l.i 0 test.true) in
+    let same : take a.m (drop a.from (table_of l.work)) ≡ T = slot_same listing _ _ _ _ l.invariant.3 a.from a.m p.3 in
+    let long = stretch_long a.from a.m W (omega (arith, p.3, fits_table a.work.now 4096 (omega (arith, p.4)))) in
+    let within : start_in h + length_in h ≤ a.m = omega (arith, long, (subst (Whole a.ways a.x T) (sym there) (head_whole T hs a.ways a.x p.8 l.i low)).0.inside) in (
+      search rules,
+      r.auto.0 ∙ l.invariant.1,
+      r.auto.1.0 ∙ l.invariant.2,
+      rw (← rests_next T hs l.i h low there (alone a.ways a.x)) (scratch_more listing _ _ _ _ l.invariant.3 _ _ _ (rw same at e.0)),
+      omega (arith, rw same at e.1.0, l.invariant.4, left_next T hs l.i h low there (left_over a.ways a.x)),
+      every_next T hs l.i h low there (λ g. (start_in g + length_in g ≤ a.m) × SplitIn a.ways a.x T r.new.1.0 g)
+          (every_weaker (λ g. (start_in g + length_in g ≤ a.m) × SplitIn a.ways a.x T l.parts g) (λ g. (start_in g + length_in g ≤ a.m) × SplitIn a.ways a.x T r.new.1.0 g)
+          (λ g q. (q.0, split_kept a.from a.m (table_of l.work) a.ways a.x l.parts r.new.1.0 e.1.1.1 T same g q.0 q.1)) (take l.i hs) l.invariant.5)
+          (within, subst (λ (U : List State). SplitIn a.ways a.x U r.new.1.0 h) same e.1.1.0),
+    )
+
+pub returns : goal.returns
+returns c = let a = c.args in let l = c.loop-i in
+    let T = take a.m (drop a.from (table_of a.work.now)) in
+    let hs = take a.count a.heads.now in
+    let short : length hs ≤ l.i = omega (arith, l.invariant.0, c.loop-i-test.false, length-take-le a.count a.heads.now c.requires.5) in (
+      rw (← rests_all T hs a.ways a.x c.requires.8 l.i short (alone a.ways a.x)) l.invariant.3,
+      (
+        l.invariant.4 ∙ left_all T hs a.ways a.x c.requires.8 l.i short (left_over a.ways a.x),
+        subst (Every (SplitIn a.ways a.x T l.parts)) (take_all l.i hs short)
+            (every_weaker (λ g. (start_in g + length_in g ≤ a.m) × SplitIn a.ways a.x T l.parts g) (SplitIn a.ways a.x T l.parts) (λ g q. q.1) (take l.i hs) l.invariant.5),
+      ),
+    )

@@ -1,0 +1,34 @@
+-- `put_listing` meets its contract: what it puts is the text of what listing answers, in each of its cases.
+use mathlib.Core.Path.{sym, ap, ◌∙◌}
+use Prim.Native.Nat.{◌≤◌}
+use native.Mathlib.Omega.{arith}
+use lib.ListN.{length}
+use lib.Seq.{length-take-le}
+use Rattle.recorder.specs.Calls.{CountLeft}
+use Rattle.writing.specs.Writing.{refused_line}
+use Rattle.writing.proofs.Putting.{put_is, put_then}
+use Rattle.traces.proofs.Saying.{listing_within, listing_said}
+use Rattle.traces.proofs.put_listing.Goals as goal
+use Rattle.traces.proofs.put_listing.Goals.{In-Blocks-2}
+
+-- as many numbers as are answered stand in the room
+within : (c : In-Blocks-2) → c.in-Blocks.n ≤ length c.list_damaged.new.places
+within c = listing_within _ _ c.in-Blocks.is c.list_damaged.ensures
+
+pub slice_bounds-put_places-end : goal.slice_bounds-put_places-end
+slice_bounds-put_places-end c = omega (arith, within (goal.at.slice_bounds-put_places-end c).In-Blocks-2)
+
+pub slice_bounds-put_places-end-in-Blocks : goal.slice_bounds-put_places-end-in-Blocks
+slice_bounds-put_places-end-in-Blocks c = sym (length-take-le _ _ (within (goal.at.slice_bounds-put_places-end-in-Blocks c).In-Blocks-2))
+
+pub returns-in-Blocks : goal.returns-in-Blocks
+returns-in-Blocks c =
+    let left = c.list_damaged.ensures in
+    let text = put_then _ _ _ _ _ c.put_count-head.ensures _ _ _ c.put_places.ensures in
+    record { put = put_is _ _ _ _ _ _ text (listing_said _ c.in-Blocks.is left); places_after = ap (λ (a : CountLeft). a.room) left }
+
+pub returns-in-Refused : goal.returns-in-Refused
+returns-in-Refused c =
+    let left = c.list_damaged.ensures in
+    let line = ap refused_line c.number.ensures ∙ listing_said _ c.in-Refused.is left in
+    record { put = put_is _ _ _ _ _ _ c.put_refused.ensures line; places_after = ap (λ (a : CountLeft). a.room) left }
