@@ -34,7 +34,7 @@ pub fn analyse_best(
     res: &mut [u64],
     work: &mut [u64],
 ) -> BestOutcome
-    ensures* { λ r. ⌜ record { answer = r; result = res.new; work = work.new } ≡ best_analysed sets ways revision limit tracked.now runs.now accesses.now edges.now res.old work.old ⌝ }
+    ensures { record { answer = result; result = res.new; work = work.new } ≡ best_analysed sets ways revision limit tracked.now runs.now accesses.now edges.now res.old work.old }
 {
     let cache = Cache {
         sets,

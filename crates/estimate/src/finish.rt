@@ -25,7 +25,7 @@ pub(crate) fn hand_over(res: &mut [u64], work: &mut [u64], last: usize) -> usize
 // The end of a call with pairings: the table in slot `last` is handed over where every pairing was accepted, and otherwise the answer is 19.
 pub(crate) fn close(res: &mut [u64], work: &mut [u64], last: usize, done: Done) -> Outcome
     requires { (last < 64) × (25920 ≤ length work.old) × (length (table_in last (table_of work.old)) * 5 ≤ length res.old) }
-    ensures* { λ r. ⌜ record { answer = r; result = res.new; work = work.new } ≡ closed done.fits (table_in last (table_of work.old)) done.aside res.old (length work.old) ⌝ }
+    ensures { record { answer = result; result = res.new; work = work.new } ≡ closed done.fits (table_in last (table_of work.old)) done.aside res.old (length work.old) }
 {
     if !done.fits {
         return refuse_pairing(work);

@@ -41,7 +41,7 @@ pub fn analyse(
     res: &mut [u64],
     work: &mut [u64],
 ) -> Outcome
-    ensures* { λ r. ⌜ record { answer = r; result = res.new; work = work.new } ≡ analysed cache limit tracked.now runs.now accesses.now edges.now res.old work.old ⌝ }
+    ensures { record { answer = result; result = res.new; work = work.new } ≡ analysed cache limit tracked.now runs.now accesses.now edges.now res.old work.old }
 {
     match judge(
         cache,
@@ -87,7 +87,7 @@ fn work_paired(
     work: &mut [u64],
 ) -> Outcome
     requires { Accepted ≡ verdict (handed cache limit tracked.now runs.now accesses.now edges.now res.old work.old) }
-    ensures* { λ r. ⌜ record { answer = r; result = res.new; work = work.new } ≡ analysed_paired cache limit tracked.now runs.now accesses.now edges.now counts.now rows.now res.old work.old ⌝ }
+    ensures { record { answer = result; result = res.new; work = work.new } ≡ analysed_paired cache limit tracked.now runs.now accesses.now edges.now counts.now rows.now res.old work.old }
 {
     if !in_form(joins_to(edges, runs.len()), counts, rows) {
         return refuse_pairing(work);
@@ -120,7 +120,7 @@ pub fn analyse_paired(
     res: &mut [u64],
     work: &mut [u64],
 ) -> Outcome
-    ensures* { λ r. ⌜ record { answer = r; result = res.new; work = work.new } ≡ analysed_paired cache limit tracked.now runs.now accesses.now edges.now counts.now rows.now res.old work.old ⌝ }
+    ensures { record { answer = result; result = res.new; work = work.new } ≡ analysed_paired cache limit tracked.now runs.now accesses.now edges.now counts.now rows.now res.old work.old }
 {
     match judge(
         cache,

@@ -24,7 +24,7 @@ pub extern "C" fn estimate_best(
     work: &mut [u64],
     states: &mut usize,
 ) -> u64
-    ensures* { λ r. ⌜ record { number = r; states = states.new; result = res.new; work = work.new } ≡ best_given (best_analysed sets ways revision limit tracked.now runs.now accesses.now edges.now res.old work.old) states.old ⌝ }
+    ensures { record { number = result; states = states.new; result = res.new; work = work.new } ≡ best_given (best_analysed sets ways revision limit tracked.now runs.now accesses.now edges.now res.old work.old) states.old }
 {
     match analyse_best(
         sets, ways, revision, limit, tracked, runs, accesses, edges, res, work,

@@ -51,7 +51,7 @@ pub extern "C" fn estimate_graph(
     states: &mut usize,
     aside: &mut u64,
 ) -> u64
-    ensures* { λ r. ⌜ record { answer = record { number = r; states = states.new; aside = aside.new }; result = res.new; work = work.new } ≡ graph_given (analysed (cache_given sets ways revision warm) limit tracked.now runs.now accesses.now edges.now res.old work.old) states.old aside.old ⌝ }
+    ensures { record { answer = record { number = result; states = states.new; aside = aside.new }; result = res.new; work = work.new } ≡ graph_given (analysed (cache_given sets ways revision warm) limit tracked.now runs.now accesses.now edges.now res.old work.old) states.old aside.old }
 {
     give_outcome(
         analyse(
@@ -88,7 +88,7 @@ pub extern "C" fn estimate_graph_paired(
     states: &mut usize,
     aside: &mut u64,
 ) -> u64
-    ensures* { λ r. ⌜ record { answer = record { number = r; states = states.new; aside = aside.new }; result = res.new; work = work.new } ≡ graph_given (analysed_paired (cache_given sets ways revision warm) limit tracked.now runs.now accesses.now edges.now counts.now rows.now res.old work.old) states.old aside.old ⌝ }
+    ensures { record { answer = record { number = result; states = states.new; aside = aside.new }; result = res.new; work = work.new } ≡ graph_given (analysed_paired (cache_given sets ways revision warm) limit tracked.now runs.now accesses.now edges.now counts.now rows.now res.old work.old) states.old aside.old }
 {
     give_outcome(
         analyse_paired(
@@ -384,7 +384,7 @@ pub extern "C" fn estimate_curve_of_text(
     counts: &mut [u64],
     output: &mut [u8],
 ) -> usize
-    ensures* { λ r. ⌜ record { bytes = r; numbers = numbers.new; rooms = record { result = res.exit.now; work = work.new; counts = counts.new; output = output.new } } ≡ text_given (after_text text.now numbers.old (record { res = res.entry.now; work = work.old; counts = counts.old; output = output.old })) ⌝ }
+    ensures { record { bytes = result; numbers = numbers.new; rooms = record { result = res.new; work = work.new; counts = counts.new; output = output.new } } ≡ text_given (after_text text.now numbers.old (record { result = res.old; work = work.old; counts = counts.old; output = output.old })) }
 {
     bytes_of(curve_of_text(text, numbers, res, work, counts, output))
 }
@@ -398,7 +398,7 @@ pub extern "C" fn estimate_curve_of_numbers(
     counts: &mut [u64],
     output: &mut [u8],
 ) -> usize
-    ensures* { λ r. ⌜ record { bytes = r; rooms = record { result = res.exit.now; work = work.new; counts = counts.new; output = output.new } } ≡ numbers_given (after_numbers numbers.now (record { res = res.entry.now; work = work.old; counts = counts.old; output = output.old })) ⌝ }
+    ensures { record { bytes = result; rooms = record { result = res.new; work = work.new; counts = counts.new; output = output.new } } ≡ numbers_given (after_numbers numbers.now (record { result = res.old; work = work.old; counts = counts.old; output = output.old })) }
 {
     bytes_of(curve_of_numbers(numbers, res, work, counts, output))
 }
@@ -413,7 +413,7 @@ pub extern "C" fn estimate_cycles_of_text(
     counts: &mut [u64],
     output: &mut [u8],
 ) -> usize
-    ensures* { λ r. ⌜ record { bytes = r; numbers = numbers.new; rooms = record { result = res.exit.now; work = work.new; counts = counts.new; output = output.new } } ≡ text_given (after_cycles_of_text text.now numbers.old (record { res = res.entry.now; work = work.old; counts = counts.old; output = output.old })) ⌝ }
+    ensures { record { bytes = result; numbers = numbers.new; rooms = record { result = res.new; work = work.new; counts = counts.new; output = output.new } } ≡ text_given (after_cycles_of_text text.now numbers.old (record { result = res.old; work = work.old; counts = counts.old; output = output.old })) }
 {
     bytes_of(cycles_of_text(text, numbers, res, work, counts, output))
 }
@@ -427,7 +427,7 @@ pub extern "C" fn estimate_cycles_of_numbers(
     counts: &mut [u64],
     output: &mut [u8],
 ) -> usize
-    ensures* { λ r. ⌜ record { bytes = r; rooms = record { result = res.exit.now; work = work.new; counts = counts.new; output = output.new } } ≡ numbers_given (after_cycles_of_numbers numbers.now (record { res = res.entry.now; work = work.old; counts = counts.old; output = output.old })) ⌝ }
+    ensures { record { bytes = result; rooms = record { result = res.new; work = work.new; counts = counts.new; output = output.new } } ≡ numbers_given (after_cycles_of_numbers numbers.now (record { result = res.old; work = work.old; counts = counts.old; output = output.old })) }
 {
     bytes_of(cycles_of_numbers(numbers, res, work, counts, output))
 }

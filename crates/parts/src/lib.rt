@@ -23,7 +23,7 @@ fn call(
     work: &mut [u64],
 ) -> Outcome
     requires { Ends numbers.now first second third × (3 ≤ first) × (first < second) × (second < third) × (third < length numbers.now) }
-    ensures* { λ r. ⌜ record { answer = r; result = res.new; work = work.new } ≡ numbers_left choice numbers.now res.old work.old ⌝ }
+    ensures { record { answer = result; result = res.new; work = work.new } ≡ numbers_left choice numbers.now res.old work.old }
 {
     let start = choice.start;
     analyse(
@@ -71,7 +71,7 @@ pub fn analyse_numbers(
     res: &mut [u64],
     work: &mut [u64],
 ) -> Outcome
-    ensures* { λ r. ⌜ record { answer = r; result = res.new; work = work.new } ≡ numbers_left choice numbers.now res.old work.old ⌝ }
+    ensures { record { answer = result; result = res.new; work = work.new } ≡ numbers_left choice numbers.now res.old work.old }
 {
     let first = end_of(numbers, 2, 1);
     let second = end_of(numbers, first, 1);
@@ -108,7 +108,7 @@ fn call_best(
     work: &mut [u64],
 ) -> BestOutcome
     requires { Ends numbers.now first second third × (3 ≤ first) × (first < second) × (second < third) × (third < length numbers.now) }
-    ensures* { λ r. ⌜ record { answer = r; result = res.new; work = work.new } ≡ best_numbers_left sets revision numbers.now res.old work.old ⌝ }
+    ensures { record { answer = result; result = res.new; work = work.new } ≡ best_numbers_left sets revision numbers.now res.old work.old }
 {
     analyse_best(
         sets,
@@ -132,7 +132,7 @@ pub fn analyse_best_numbers(
     res: &mut [u64],
     work: &mut [u64],
 ) -> BestOutcome
-    ensures* { λ r. ⌜ record { answer = r; result = res.new; work = work.new } ≡ best_numbers_left sets revision numbers.now res.old work.old ⌝ }
+    ensures { record { answer = result; result = res.new; work = work.new } ≡ best_numbers_left sets revision numbers.now res.old work.old }
 {
     let first = end_of(numbers, 2, 1);
     let second = end_of(numbers, first, 1);

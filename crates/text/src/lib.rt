@@ -21,7 +21,7 @@ pub fn curve_of_numbers(
     counts: &mut [u64],
     output: &mut [u8],
 ) -> Written
-    ensures* { λ r. ⌜ record { answer = r; rooms = record { result = res.exit.now; work = work.new; counts = counts.new; output = output.new } } ≡ after_numbers numbers.now (record { res = res.entry.now; work = work.old; counts = counts.old; output = output.old }) ⌝ }
+    ensures { record { answer = result; rooms = record { result = res.new; work = work.new; counts = counts.new; output = output.new } } ≡ after_numbers numbers.now (record { result = res.old; work = work.old; counts = counts.old; output = output.old }) }
 {
     write_numbers(Wanted::Misses, numbers, res, work, counts, output)
 }
@@ -34,7 +34,7 @@ pub fn cycles_of_numbers(
     counts: &mut [u64],
     output: &mut [u8],
 ) -> Written
-    ensures* { λ r. ⌜ record { answer = r; rooms = record { result = res.exit.now; work = work.new; counts = counts.new; output = output.new } } ≡ after_cycles_of_numbers numbers.now (record { res = res.entry.now; work = work.old; counts = counts.old; output = output.old }) ⌝ }
+    ensures { record { answer = result; rooms = record { result = res.new; work = work.new; counts = counts.new; output = output.new } } ≡ after_cycles_of_numbers numbers.now (record { result = res.old; work = work.old; counts = counts.old; output = output.old }) }
 {
     write_numbers(Wanted::Cycles, numbers, res, work, counts, output)
 }
@@ -48,7 +48,7 @@ pub fn curve_of_text(
     counts: &mut [u64],
     output: &mut [u8],
 ) -> Written
-    ensures* { λ r. ⌜ record { answer = r; numbers = numbers.new; rooms = record { result = res.exit.now; work = work.new; counts = counts.new; output = output.new } } ≡ after_text text.now numbers.old (record { res = res.entry.now; work = work.old; counts = counts.old; output = output.old }) ⌝ }
+    ensures { record { answer = result; numbers = numbers.new; rooms = record { result = res.new; work = work.new; counts = counts.new; output = output.new } } ≡ after_text text.now numbers.old (record { result = res.old; work = work.old; counts = counts.old; output = output.old }) }
 {
     write_text(
         Form::Plain,
@@ -71,7 +71,7 @@ pub fn cycles_of_text(
     counts: &mut [u64],
     output: &mut [u8],
 ) -> Written
-    ensures* { λ r. ⌜ record { answer = r; numbers = numbers.new; rooms = record { result = res.exit.now; work = work.new; counts = counts.new; output = output.new } } ≡ after_cycles_of_text text.now numbers.old (record { res = res.entry.now; work = work.old; counts = counts.old; output = output.old }) ⌝ }
+    ensures { record { answer = result; numbers = numbers.new; rooms = record { result = res.new; work = work.new; counts = counts.new; output = output.new } } ≡ after_cycles_of_text text.now numbers.old (record { result = res.old; work = work.old; counts = counts.old; output = output.old }) }
 {
     write_text(
         Form::Plain,
@@ -95,7 +95,7 @@ pub fn curve_of_chosen_text(
     counts: &mut [u64],
     output: &mut [u8],
 ) -> Written
-    ensures* { λ r. ⌜ record { answer = r; numbers = numbers.new; rooms = record { result = res.exit.now; work = work.new; counts = counts.new; output = output.new } } ≡ after_chosen_text text.now numbers.old (record { res = res.entry.now; work = work.old; counts = counts.old; output = output.old }) ⌝ }
+    ensures { record { answer = result; numbers = numbers.new; rooms = record { result = res.new; work = work.new; counts = counts.new; output = output.new } } ≡ after_chosen_text text.now numbers.old (record { result = res.old; work = work.old; counts = counts.old; output = output.old }) }
 {
     write_text(
         Form::Chosen,
@@ -118,7 +118,7 @@ pub fn cycles_of_chosen_text(
     counts: &mut [u64],
     output: &mut [u8],
 ) -> Written
-    ensures* { λ r. ⌜ record { answer = r; numbers = numbers.new; rooms = record { result = res.exit.now; work = work.new; counts = counts.new; output = output.new } } ≡ after_cycles_of_chosen_text text.now numbers.old (record { res = res.entry.now; work = work.old; counts = counts.old; output = output.old }) ⌝ }
+    ensures { record { answer = result; numbers = numbers.new; rooms = record { result = res.new; work = work.new; counts = counts.new; output = output.new } } ≡ after_cycles_of_chosen_text text.now numbers.old (record { result = res.old; work = work.old; counts = counts.old; output = output.old }) }
 {
     write_text(
         Form::Chosen,
@@ -141,7 +141,7 @@ fn write_numbers(
     counts: &mut [u64],
     output: &mut [u8],
 ) -> Written
-    ensures* { λ r. ⌜ record { answer = r; rooms = record { result = res.exit.now; work = work.new; counts = counts.new; output = output.new } } ≡ wanted_after wanted numbers.now (record { res = res.entry.now; work = work.old; counts = counts.old; output = output.old }) ⌝ }
+    ensures { record { answer = result; rooms = record { result = res.new; work = work.new; counts = counts.new; output = output.new } } ≡ wanted_after wanted numbers.now (record { result = res.old; work = work.old; counts = counts.old; output = output.old }) }
 {
     if !has_room(wanted, res.len(), work.len(), counts.len(), output.len()) {
         return Written::NoRoom;
@@ -160,7 +160,7 @@ fn write_text(
     counts: &mut [u64],
     output: &mut [u8],
 ) -> Written
-    ensures* { λ r. ⌜ record { answer = r; numbers = numbers.new; rooms = record { result = res.exit.now; work = work.new; counts = counts.new; output = output.new } } ≡ wanted_after_text form wanted text.now numbers.old (record { res = res.entry.now; work = work.old; counts = counts.old; output = output.old }) ⌝ }
+    ensures { record { answer = result; numbers = numbers.new; rooms = record { result = res.new; work = work.new; counts = counts.new; output = output.new } } ≡ wanted_after_text form wanted text.now numbers.old (record { result = res.old; work = work.old; counts = counts.old; output = output.old }) }
 {
     if numbers.len() < 16384 {
         return Written::NoRoom;

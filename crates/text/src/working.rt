@@ -136,7 +136,7 @@ pub(crate) fn put_numbers(
     output: &mut [u8],
 ) -> usize
     requires { (320 ≤ length res.old) × (25920 ≤ length work.old) × (4097 ≤ length counts.old) }
-    ensures* { λ r. ⌜ Wrote (numbers_worked choice numbers.now) (of_numbers (wanted_text wanted) choice numbers.now) r (record { result = res.entry.now; work = work.old; counts = counts.old; output = output.old }) (record { res = res.exit.now; work = work.new; counts = counts.new; output = output.new }) ⌝ }
+    ensures { Wrote (numbers_worked choice numbers.now) (of_numbers (wanted_text wanted) choice numbers.now) result (record { result = res.old; work = work.old; counts = counts.old; output = output.old }) (record { result = res.new; work = work.new; counts = counts.new; output = output.new }) }
 {
     match analyse_numbers(choice, numbers, res, work) {
         Outcome::Refused(why) => put_refused(output, why.number()),
@@ -156,7 +156,7 @@ pub(crate) fn put_chosen(
     output: &mut [u8],
 ) -> usize
     requires { (320 ≤ length res.old) × (25920 ≤ length work.old) × (4097 ≤ length counts.old) }
-    ensures* { λ r. ⌜ Wrote (chosen_worked numbers.now) (of_chosen (wanted_text wanted) numbers.now) r (record { result = res.entry.now; work = work.old; counts = counts.old; output = output.old }) (record { res = res.exit.now; work = work.new; counts = counts.new; output = output.new }) ⌝ }
+    ensures { Wrote (chosen_worked numbers.now) (of_chosen (wanted_text wanted) numbers.now) result (record { result = res.old; work = work.old; counts = counts.old; output = output.old }) (record { result = res.new; work = work.new; counts = counts.new; output = output.new }) }
 {
     match choice_in(numbers) {
         Chosen::Nothing => put_refused(output, 9),
@@ -177,7 +177,7 @@ pub(crate) fn put_form(
     output: &mut [u8],
 ) -> usize
     requires { (320 ≤ length res.old) × (25920 ≤ length work.old) × (4097 ≤ length counts.old) }
-    ensures* { λ r. ⌜ Wrote (form_worked form numbers.now) (of_form form (wanted_text wanted) numbers.now) r (record { result = res.entry.now; work = work.old; counts = counts.old; output = output.old }) (record { res = res.exit.now; work = work.new; counts = counts.new; output = output.new }) ⌝ }
+    ensures { Wrote (form_worked form numbers.now) (of_form form (wanted_text wanted) numbers.now) result (record { result = res.old; work = work.old; counts = counts.old; output = output.old }) (record { result = res.new; work = work.new; counts = counts.new; output = output.new }) }
 {
     match form {
         Form::Plain => {
@@ -204,7 +204,7 @@ pub(crate) fn put_text(
     output: &mut [u8],
 ) -> usize
     requires { (16384 ≤ length numbers.old) × (320 ≤ length res.old) × (25920 ≤ length work.old) × (4097 ≤ length counts.old) }
-    ensures* { λ r. ⌜ Wrote (text_worked (form_worked form) text.now) (of_text (of_form form (wanted_text wanted)) text.now) r (record { result = res.entry.now; work = work.old; counts = counts.old; output = output.old }) (record { res = res.exit.now; work = work.new; counts = counts.new; output = output.new }) ⌝ }
+    ensures { Wrote (text_worked (form_worked form) text.now) (of_text (of_form form (wanted_text wanted)) text.now) result (record { result = res.old; work = work.old; counts = counts.old; output = output.old }) (record { result = res.new; work = work.new; counts = counts.new; output = output.new }) }
 {
     match read_numbers(text, numbers) {
         Read::Nothing => put_refused(output, 9),

@@ -27,9 +27,9 @@ hand_over-states-requires c = let a = c.args in
     let ok = checked _ (sym c.in-Accepted.is ∙ c.judge.ensures) in
     let g = c.work_nodes-done in
     let done = g.ensures.0 ∙ ap (λ (q : Entries). worked_by q (input_of a.cache a.limit a.tracked.now a.runs.now a.accesses.now a.edges.now) (length a.runs.now)) no_entries in
-    let table = last_table a.cache a.limit a.tracked.now a.runs.now a.accesses.now a.edges.now a.res.now a.work.now g.result.aside.0 (table_of g.new.0) ok.some_nodes no_pairings done in (
+    let table = last_table a.cache a.limit a.tracked.now a.runs.now a.accesses.now a.edges.now a.res.now a.work.now g.result.aside.0 (table_of g.new.work) ok.some_nodes no_pairings done in (
       omega (arith, ok.few_nodes),
-      omega (arith, ok.working_room_fact, g.auto.0),
+      omega (arith, ok.working_room_fact, g.auto.work),
       rw table (omega (arith, finished_fits no_pairings (handed a.cache a.limit a.tracked.now a.runs.now a.accesses.now a.edges.now a.res.now a.work.now) ok, ok.result_room_fact)),
     )
 
@@ -45,6 +45,6 @@ returns-in-Accepted c = let a = c.args in
     let h = c.hand_over-states.ensures in
     let done = g.ensures.0 ∙ ap (λ (q : Entries). worked_by q (input_of a.cache a.limit a.tracked.now a.runs.now a.accesses.now a.edges.now) (length a.runs.now)) no_entries in
     leaves_finished a.cache a.limit a.tracked.now a.runs.now a.accesses.now a.edges.now a.res.now a.work.now _ _ _ _ _ accepted
-    (last_table a.cache a.limit a.tracked.now a.runs.now a.accesses.now a.edges.now a.res.now a.work.now g.result.aside.0 (table_of g.new.0) ok.some_nodes no_pairings done)
-    (last_aside a.cache a.limit a.tracked.now a.runs.now a.accesses.now a.edges.now a.res.now a.work.now g.result.aside.0 (table_of g.new.0) ok.some_nodes no_pairings done)
-    h.0 h.1.0 (rw g.auto.0 at h.1.1)
+    (last_table a.cache a.limit a.tracked.now a.runs.now a.accesses.now a.edges.now a.res.now a.work.now g.result.aside.0 (table_of g.new.work) ok.some_nodes no_pairings done)
+    (last_aside a.cache a.limit a.tracked.now a.runs.now a.accesses.now a.edges.now a.res.now a.work.now g.result.aside.0 (table_of g.new.work) ok.some_nodes no_pairings done)
+    h.value h.res_after (rw g.auto.work at h.work_after)

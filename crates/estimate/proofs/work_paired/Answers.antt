@@ -29,9 +29,9 @@ close-requires c = let a = c.args in
     let ok = checked _ c.requires in
     let g = c.work_nodes-done in
     let q = entry_of a.counts.now a.rows.now in
-    let table = last_table a.cache a.limit a.tracked.now a.runs.now a.accesses.now a.edges.now a.res.now a.work.now g.result.aside.0 (table_of g.new.0) ok.some_nodes q g.ensures.0 in (
+    let table = last_table a.cache a.limit a.tracked.now a.runs.now a.accesses.now a.edges.now a.res.now a.work.now g.result.aside.0 (table_of g.new.work) ok.some_nodes q g.ensures.0 in (
       omega (arith, ok.few_nodes),
-      omega (arith, ok.working_room_fact, g.auto.0),
+      omega (arith, ok.working_room_fact, g.auto.work),
       rw table (omega (arith, finished_fits q (handed a.cache a.limit a.tracked.now a.runs.now a.accesses.now a.edges.now a.res.now a.work.now) ok, ok.result_room_fact)),
     )
 
@@ -43,6 +43,6 @@ returns c = let a = c.args in
     c.close.ensures
     ∙ closed_leaves a.cache a.limit a.tracked.now a.runs.now a.accesses.now a.edges.now a.counts.now a.rows.now a.res.now a.work.now g.result.fits _ g.result.aside _ c.requires
     (fit_so a.cache a.limit a.tracked.now a.runs.now a.accesses.now a.edges.now a.counts.now a.rows.now a.res.now a.work.now _ _ (form_of _ a.edges.now a.runs.now _ _ c.joins_to.ensures c.in_form.ensures) (c.if-not-in_form.false) g.ensures.1)
-    (last_table a.cache a.limit a.tracked.now a.runs.now a.accesses.now a.edges.now a.res.now a.work.now g.result.aside.0 (table_of g.new.0) ok.some_nodes q g.ensures.0)
-    (last_aside a.cache a.limit a.tracked.now a.runs.now a.accesses.now a.edges.now a.res.now a.work.now g.result.aside.0 (table_of g.new.0) ok.some_nodes q g.ensures.0)
-    g.auto.0
+    (last_table a.cache a.limit a.tracked.now a.runs.now a.accesses.now a.edges.now a.res.now a.work.now g.result.aside.0 (table_of g.new.work) ok.some_nodes q g.ensures.0)
+    (last_aside a.cache a.limit a.tracked.now a.runs.now a.accesses.now a.edges.now a.res.now a.work.now g.result.aside.0 (table_of g.new.work) ok.some_nodes q g.ensures.0)
+    g.auto.work

@@ -13,19 +13,19 @@ use Rattle.best.proofs.run.advance.Statement.{statement}
 use Rattle.best.proofs.run.advance.Tie as tie
 
 -- what the access is after, and that it is after a block of the cache
-target : (c : tie.After-aim) → let a = c.before.before.before.args in c.aim.result ≡ target_of a.sets a.tracked.now unknown a.block
+target : (c : tie.After-aim-x) → let a = c.args in c.aim-x.result ≡ target_of a.sets a.tracked.now unknown a.block
 target c =
-    let a = c.before.before.before.args in
-    let r = c.before.before.before.pre.ranges in
-    aim_so a.sets a.tracked.now r.few_tracked r.known_sets unknown a.block _ c.aim.ensures
+    let a = c.args in
+    let r = c.requires.ranges in
+    aim_so a.sets a.tracked.now r.few_tracked r.known_sets unknown a.block _ c.aim-x.ensures
 
-aims : (c : tie.After-aim) → Aimed c.before.before.before.args.sets c.before.before.before.args.tracked.now c.aim.result
-aims c = let a = c.before.before.before.args in aimed_so _ _ c.before.before.before.pre.ranges.known_sets a.block _ (target c)
+aims : (c : tie.After-aim-x) → Aimed c.args.sets c.args.tracked.now c.aim-x.result
+aims c = let a = c.args in aimed_so _ _ c.requires.ranges.known_sets a.block _ (target c)
 
-gather-requires : tie.Need-gather-requires
+gather-requires : tie.Need-gather-gathered-requires
 gather-requires c κs =
-    let a = c.before.before.before.before.args in
-    let p = c.before.before.before.before.pre in (
+    let a = c.args in
+    let p = c.requires in (
       placed a.ways a.sets a.tracked.now p.ranges.few_ways _ (aims c.before) p.ranges.few_tracked,
       p.ranges.some_ways,
       p.ranges.few_ways,
@@ -37,21 +37,21 @@ gather-requires c κs =
 
 settle-requires : tie.Need-settle-requires
 settle-requires c κs =
-    let a = c.before.before.before.before.before.before.before.before.args in
-    let p = c.before.before.before.before.before.before.before.before.pre in
-    let g = c.before.before.before.gather in
+    let a = c.args in
+    let p = c.requires in
+    let g = c.gather-gathered in
     let fits = gathered_fits a.sets a.ways a.tracked.now a.limit 4095 _ _ _ _ _ p.ranges (aims c.before.before.before.before.before) p.table g.ensures in
-    (omega (arith, p.room, g.kept.0), p.slot, fits.0, p.ranges.some_states, p.ranges.few_states, fits.1)
+    (omega (arith, p.room, g.auto.work), p.slot, fits.0, p.ranges.some_states, p.ranges.few_states, fits.1)
 
 returns : tie.Need-returns
 returns c =
-    let a = c.before.before.before.before.before.before.before.before.before.before.before.args in
-    let g = c.before.before.before.before.before.before.gather in
-    let x = c.before.before.before.before.before.before.before.before.aim in
-    advanced a.ways a.limit x.result _ (take a.n (drop a.at (table_of a.work.now))) a.at _ _ _ _ _ (target c.before.before.before.before.before.before.before.before) (omega (arith, c.before.before.before.before.before.before.before.before.before.before.before.pre.slot)) g.ensures c.before.before.settle.ensures
+    let a = c.args in
+    let g = c.gather-gathered in
+    let x = c.aim-x in
+    advanced a.ways a.limit x.result _ (take a.n (drop a.at (table_of a.work.now))) a.at _ _ _ _ _ (target c.before.before.before.before.before.before.before.before) (omega (arith, c.requires.slot)) g.ensures c.settle.ensures
 
-pub advance-spec : {M : Type 1} → statement M
-advance-spec =
+pub advance_spec : {M : Type 1} → statement M
+advance_spec =
     tie.close
     (tie.spec
     (λ c κs. search rules)

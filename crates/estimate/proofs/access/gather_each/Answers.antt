@@ -43,7 +43,7 @@ loop-i-preserved c = let l = c.loop-i in
     let followed = c.follow_to_scratch-n in
     let read = slot_reads listing _ _ _ _ l.invariant.2 a.from a.m l.i _ (omega arith) p.3 c.load-s.ensures in (
       search rules,
-      followed.auto.0 ∙ l.invariant.1,
+      followed.auto.work ∙ l.invariant.1,
       rw (← gathered_next listing (successors a.ways a.x) S l.i c.load-s.result (omega arith) read)
           (scratch_more listing _ _ _ _ l.invariant.2 _ _ _ followed.ensures),
       aside_next a.ways a.x S _ l.i _ _ _ _ (omega arith) read l.invariant.3 (over_so a.x p.0.0 p.0.1 _ _ _ c.left_over.ensures) (units_added _ _ _ c.add-count.ensures),

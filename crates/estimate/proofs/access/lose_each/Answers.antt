@@ -37,7 +37,7 @@ loop-at-preserved c = let a = c.args in
     let next = c.next_place-at-in-loop-at.ensures in
     let lost = c.lose_one-m in (
       rw next (next_within a.risk (c.loop-at.at + 1) (omega (arith, c.loop-at-test.true))),
-      lost.auto.0 ∙ c.loop-at.invariant.1,
+      lost.auto.words ∙ c.loop-at.invariant.1,
       rw (next, lost_skips listing (losing a.x a.s a.part.0) a.risk (c.loop-at.at + 1), lost_next listing (losing a.x a.s a.part.0) a.risk c.loop-at.at) (added_then listing _ _ _ _ _ c.loop-at.invariant.2 _ _ _ lost.ensures),
     )
 

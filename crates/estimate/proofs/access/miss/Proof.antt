@@ -42,7 +42,7 @@ add-requires c κs =
     let a = c.args in
     let lost = c.lose_each-lost in
     let more = lost_count listing _ _ a.n _ (table_of a.words.now) _ (fits_table a.words.now a.n (omega (arith, c.requires.3))) lost.ensures in
-    (omega (arith, more, few c.before.before.before.before.before.before.before.before.before, c.requires.2, c.requires.3, lost.auto.0), added_rising listing _ _ _ _ _ lost.ensures states_lawful c.requires.4)
+    (omega (arith, more, few c.before.before.before.before.before.before.before.before.before, c.requires.2, c.requires.3, lost.auto.words), added_rising listing _ _ _ _ _ lost.ensures states_lawful c.requires.4)
 
 add-requires-2 : tie.Need-add-requires
 add-requires-2 c κs =
@@ -51,7 +51,7 @@ add-requires-2 c κs =
     let kept = c.add-kept in
     let more = kept_count a.x c.fuller-t.result c.at_risk-risk.result a.ways _ a.n (table_of a.words.now) (fits_table a.words.now a.n (omega (arith, c.requires.3))) _ _ _ _ _ _ _
     (few c.before.before.before.before.before.before.before.before.before.before.before.before.before.before.before) c.size_of.ensures (missed_so a.x c.requires.0.0 c.fuller-t.result _ (countable c.before.before.before.before.before.before.before.before.before.before.before.before.before.before) _ _ c.missed.ensures) lost.ensures kept.ensures in
-    (omega (arith, more, c.requires.2, c.requires.3, lost.auto.0, kept.auto.0), added_rising listing _ _ _ _ _ kept.ensures states_lawful (added_rising listing _ _ _ _ _ lost.ensures states_lawful c.requires.4))
+    (omega (arith, more, c.requires.2, c.requires.3, lost.auto.words, kept.auto.words), added_rising listing _ _ _ _ _ kept.ensures states_lawful (added_rising listing _ _ _ _ _ lost.ensures states_lawful c.requires.4))
 
 returns : tie.Need-returns
 returns c =
@@ -70,7 +70,7 @@ miss_spec =
     (λ c κs. search rules)
     lose-each-requires
     (λ c κs. search rules)
-    (λ c. omega (arith, c.size_of.ensures, few c))
+    (λ c. omega (arith, c.size_of.ensures, few c.before.before.before.before.before.before))
     (λ c. let p = c.split-share in shares_fit _ _ c.args.s.units.0 c.args.ways (omega (arith, c.requires.2)) (split_part p.result c.args.s.units c.args.ways p.ensures) c.requires.1.1)
     (λ c κs. search rules)
     add-requires

@@ -56,7 +56,7 @@ loop-i-smaller c = let a = c.args in let p = c.requires in
     let has = stretch_long a.from a.m (table_of a.work.now) (fits_table a.work.now _ (omega (arith, p.3, p.4))) in
     let mask = next_mask _ _ _ _ _ _ _ _ _ l.heads l.i _ _ q t p.8 a.from a.m p.3 refl has _ _ c.start_in.ensures c.mask_at-mask.ensures in
     let come = rw (slot_same listing _ _ _ _ q.scratch a.from a.m p.3) at put.ensures.0 in
-    (put_turn _ _ _ _ _ _ _ _ _ l.heads l.i _ _ q t p.8 _ _ _ come put.ensures.1 p.10 p.11 _ _ _ _ mask (with_listed _ _ p.0.0 _ c.with_block-own.ensures) pass.ensures.0 pass.ensures.1).1
+    (put_turn _ _ _ _ _ _ _ _ _ l.heads l.i _ _ q t p.8 _ _ _ come put.ensures.1 p.10 p.11 _ _ _ _ mask (with_listed _ _ p.0.0 _ c.with_block-own.ensures) pass.ensures.value pass.ensures.heads_after).1
 
 pub loop-i-preserved : goal.loop-i-preserved
 loop-i-preserved c = let a = c.args in let p = c.requires in
@@ -68,13 +68,7 @@ loop-i-preserved c = let a = c.args in let p = c.requires in
     let has = stretch_long a.from a.m (table_of a.work.now) (fits_table a.work.now _ (omega (arith, p.3, p.4))) in
     let mask = next_mask _ _ _ _ _ _ _ _ _ l.heads l.i _ _ q t p.8 a.from a.m p.3 refl has _ _ c.start_in.ensures c.mask_at-mask.ensures in
     let come = rw (slot_same listing _ _ _ _ q.scratch a.from a.m p.3) at put.ensures.0 in
-    (put.auto.0 ∙ l.invariant.0, (put_turn _ _ _ _ _ _ _ _ _ l.heads l.i _ _ q t p.8 _ _ _ come put.ensures.1 p.10 p.11 _ _ _ _ mask (with_listed _ _ p.0.0 _ c.with_block-own.ensures) pass.ensures.0 pass.ensures.1).0)
-
-pub shape_of-work : goal.shape_of-work
-shape_of-work c = c.loop-i.invariant.0
-
-pub shape_of-heads : goal.shape_of-heads
-shape_of-heads c = c.loop-i.invariant.1.same
+    (put.auto.work ∙ l.invariant.0, (put_turn _ _ _ _ _ _ _ _ _ l.heads l.i _ _ q t p.8 _ _ _ come put.ensures.1 p.10 p.11 _ _ _ _ mask (with_listed _ _ p.0.0 _ c.with_block-own.ensures) pass.ensures.value pass.ensures.heads_after).0)
 
 pub returns : goal.returns
 returns c = put_end _ _ _ _ _ _ _ _ _ _ _ _ _ c.loop-i.invariant.1 (omega (arith, c.loop-i-test.false))

@@ -20,10 +20,4 @@ returns c = let a = c.args in
     let n = c.count-n in
     let h = c.hand_over in
     let long = table_long listing a.last n.result (table_of a.work.now) n.ensures (omega (arith, p.0, fits_table a.work.now 5184 p.1)) in
-    let room : n.result * 5 ≤ length a.res.now = omega (arith, long, p.2) in (
-      long,
-      (
-        handed_over_lem a.last n.result a.work.now p.0 p.1 n.ensures a.res.now h.new.0 room h.ensures.0,
-        handed_empty a.last n.result a.work.now p.0 p.1 n.ensures a.res.now h.new.1.0 room h.ensures.1,
-      ),
-    )
+    let room : n.result * 5 ≤ length a.res.now = omega (arith, long, p.2) in record { value = long; res_after = handed_over_lem a.last n.result a.work.now p.0 p.1 n.ensures a.res.now h.new.res room h.ensures.res_after; work_after = handed_empty a.last n.result a.work.now p.0 p.1 n.ensures a.res.now h.new.work room h.ensures.work_after }

@@ -37,9 +37,6 @@ returns-then-edges-e c = let a = c.args in
       none_fit a.limit a.to a.aside.0 (table_of a.work.now) entries (came_from ns a.to 0) none,
     )
 
-pub overflow_cast-from : goal.overflow_cast-from
-overflow_cast-from c = omega (arith, c.shared_slice_known-4-1.given c.next_edge-e.result)
-
 pub overflow_mul-from : goal.overflow_mul-from
 overflow_mul-from c = omega (arith, c.shared_slice_known-4-1.given c.next_edge-e.result)
 
@@ -85,8 +82,8 @@ returns c = let a = c.args in
     let k = c.copy in
     let long = fits_table a.work.now 5184 p.0 in
     let entries = behind a.joins (entry_of a.counts.now a.rows.now) in (
-      enter_some states a.to a.aside.0 (table_of a.work.now) (get_or ns n.result 0) m.result (table_of k.new.0) low.0 p.1 long m.ensures k.ensures
+      enter_some states a.to a.aside.0 (table_of a.work.now) (get_or ns n.result 0) m.result (table_of k.new.words) low.0 p.1 long m.ensures k.ensures
           a.limit entries (initial (start_of a.cache)) (came_from ns a.to 0) (came_from ns a.to others.result) _ _ _ first c.join_others.ensures.0,
-      some_fit a.limit a.to a.aside.0 (table_of a.work.now) entries _ (came_from ns a.to 0) (came_from ns a.to others.result) (get_or ns n.result 0) m.result k.new.0
+      some_fit a.limit a.to a.aside.0 (table_of a.work.now) entries _ (came_from ns a.to 0) (came_from ns a.to others.result) (get_or ns n.result 0) m.result k.new.words
           low.0 p.1 long m.ensures k.ensures first c.join_others.ensures.1,
     )

@@ -23,9 +23,6 @@ loop-e-init c = let n = found _ _ _ _ c.next_edge-e.ensures in
     let p = c.requires in
     (n.1, n.2, refl, p.2, refl, rw n.3 p.6, rw n.3 refl, rw n.3 refl, omega arith)
 
-pub overflow_cast-from : goal.overflow_cast-from
-overflow_cast-from c = omega (arith, c.shared_slice_known-in-loop-e-1.given c.loop-e.e)
-
 pub overflow_mul-from : goal.overflow_mul-from
 overflow_mul-from c = omega (arith, c.shared_slice_known-in-loop-e-1.given c.loop-e.e)
 
@@ -65,13 +62,13 @@ loop-e-preserved c = let a = c.args in
       n.2,
       search rules,
       omega (arith, few, p.5),
-      g.ensures.0 ∙ l.invariant.4,
+      g.ensures.0.before ∙ l.invariant.4,
       rw n.3 low.1,
       rw n.3
-          (join_turn states a.to a.first.aside.0 (table_of a.work.now) a.limit (entry_of a.counts.now a.rows.now) l.number (came_from ns a.to l.e) (came_from ns a.to (l.e + 2)) (get_or ns l.e 0) l.so_far.states l.so_far.aside.0 g.result.states g.result.aside.0 c.count-m.result (table_of l.work) (table_of g.new.0)
+          (join_turn states a.to a.first.aside.0 (table_of a.work.now) a.limit (entry_of a.counts.now a.rows.now) l.number (came_from ns a.to l.e) (came_from ns a.to (l.e + 2)) (get_or ns l.e 0) l.so_far.states l.so_far.aside.0 g.result.states g.result.aside.0 c.count-m.result (table_of l.work) (table_of g.new.work)
           (into_here ns a.to l.e here.0 here.1) low.0 c.count-m.ensures l.invariant.4 g.ensures.0 _ l.invariant.6),
       rw n.3
-          (fit_turn a.limit a.to a.first.aside.0 (table_of a.work.now) (entry_of a.counts.now a.rows.now) l.number (came_from ns a.to l.e) (came_from ns a.to (l.e + 2)) (get_or ns l.e 0) l.so_far.states l.so_far.aside.0 g.result.states g.result.aside.0 c.count-m.result l.work g.new.0
+          (fit_turn a.limit a.to a.first.aside.0 (table_of a.work.now) (entry_of a.counts.now a.rows.now) l.number (came_from ns a.to l.e) (came_from ns a.to (l.e + 2)) (get_or ns l.e 0) l.so_far.states l.so_far.aside.0 g.result.states g.result.aside.0 c.count-m.result l.work g.new.work
           (into_here ns a.to l.e here.0 here.1) low.0 c.count-m.ensures l.invariant.4 g.ensures.0 l.so_far.fits g.result.fits _ l.invariant.7 g.ensures.1),
       omega (arith, l.invariant.8, n.0 (omega (arith, here.0))),
     )

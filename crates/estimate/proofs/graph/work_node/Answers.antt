@@ -12,35 +12,35 @@ use Rattle.estimate.proofs.Graphs.{entered_ready, node_few, node_done}
 use Rattle.estimate.proofs.graph.work_node.Goals as goal
 
 pub enter-entered-requires : goal.enter-entered-requires
-enter-entered-requires c = let p = c.pre in
+enter-entered-requires c = let p = c.requires in
     let s = p.1 in
     (s.room, s.node, s.ranges.some_states, s.ranges.few_states, s.lower, s.ranges.few_ways, counts_few _ s.ranges.known_sets, p.2, p.3)
 
 pub run-done-requires : goal.run-done-requires
 run-done-requires c = let a = c.args in
-    let p = c.pre in
+    let p = c.requires in
     let g = c.enter-entered in
-    (p.0, entered_ready (behind a.joins (entry_of a.counts.now a.rows.now)) a.cache a.tracked.now a.limit (4096 - length a.accesses.now) a.j a.past.aside.0 a.edges.now a.work.now p.1 g.result.states g.result.aside.0 g.last.0 g.kept.0 g.ensures.0)
+    (p.0, entered_ready (behind a.joins (entry_of a.counts.now a.rows.now)) a.cache a.tracked.now a.limit (4096 - length a.accesses.now) a.j a.past.aside.0 a.edges.now a.work.now p.1 g.result.states g.result.aside.0 g.new.work g.auto.work g.ensures.0)
 
 pub overflow_mul-j-2 : goal.overflow_mul-j-2
-overflow_mul-j-2 c = omega (arith, c.pre.1.node)
+overflow_mul-j-2 c = omega (arith, c.requires.1.node)
 
 pub seal-requires : goal.seal-requires
 seal-requires c = let a = c.args in
-    let p = c.pre in
+    let p = c.requires in
     let g = c.enter-entered in
     let h = c.run-done in
-    let r = entered_ready (behind a.joins (entry_of a.counts.now a.rows.now)) a.cache a.tracked.now a.limit (4096 - length a.accesses.now) a.j a.past.aside.0 a.edges.now a.work.now p.1 g.result.states g.result.aside.0 g.last.0 g.kept.0 g.ensures.0 in (
-      node_few a.cache a.tracked.now a.limit (a.j * 64) g.result.states g.result.aside.0 a.last a.accesses.now g.last.0 p.0 r h.result.states h.result.aside.0 (table_of h.last.0) h.ensures,
-      omega (arith, p.1.room, p.1.node, g.kept.0, h.kept.0),
+    let r = entered_ready (behind a.joins (entry_of a.counts.now a.rows.now)) a.cache a.tracked.now a.limit (4096 - length a.accesses.now) a.j a.past.aside.0 a.edges.now a.work.now p.1 g.result.states g.result.aside.0 g.new.work g.auto.work g.ensures.0 in (
+      node_few a.cache a.tracked.now a.limit (a.j * 64) g.result.states g.result.aside.0 a.last a.accesses.now g.new.work p.0 r h.result.states h.result.aside.0 (table_of h.new.work) h.ensures,
+      omega (arith, p.1.room, p.1.node, g.auto.work, h.auto.work),
     )
 
 pub returns : goal.returns
 returns c = let a = c.args in
-    let p = c.pre in
+    let p = c.requires in
     let g = c.enter-entered in
     let h = c.run-done in (
-      node_done (behind a.joins (entry_of a.counts.now a.rows.now)) a.cache a.tracked.now a.limit a.j a.past.aside.0 g.result.states g.result.aside.0 h.result.states h.result.aside.0 a.last a.accesses.now a.edges.now a.work.now g.last.0 h.last.0 (table_of c.seal.last.0)
-          p.0 p.1 g.kept.0 g.ensures.0 h.kept.0 h.ensures c.seal.ensures,
+      node_done (behind a.joins (entry_of a.counts.now a.rows.now)) a.cache a.tracked.now a.limit a.j a.past.aside.0 g.result.states g.result.aside.0 h.result.states h.result.aside.0 a.last a.accesses.now a.edges.now a.work.now g.new.work h.new.work (table_of c.seal.new.work)
+          p.0 p.1 g.auto.work g.ensures.0 h.auto.work h.ensures c.seal.ensures,
       c.both-fits.ensures ∙ ap (a.past.fits &&◌) g.ensures.1,
     )

@@ -105,7 +105,7 @@ loop-again c =
       search rules,
       rw (add-one l.j) (omega (arith, l.invariant.2, offset_next c.args.runs.now l.j here)),
       rw (add-one l.j)
-          (nodes_next (entries c.before.before.before.before.before.before.before.before.before.before.before.before.before.before.before.before.before.before.before.before) i ok l.j here l.done.aside.0 g.result.aside.0 _ (table_of l.work) (table_of g.new.0) l.invariant.3 (known ∙ kept_before i ok l.j l.lasts l.invariant.5)
+          (nodes_next (entries c.before.before.before.before.before.before.before.before.before.before.before.before.before.before.before.before.before.before.before.before) i ok l.j here l.done.aside.0 g.result.aside.0 _ (table_of l.work) (table_of g.new.work) l.invariant.3 (known ∙ kept_before i ok l.j l.lasts l.invariant.5)
           (rw (← part, ← l.invariant.7) g.ensures.0)),
       length-set l.lasts l.j _ ∙ l.invariant.4,
       rw (add-one l.j) (kept_next i ok l.j l.lasts l.invariant.5 _ (omega (arith, l.invariant.4, ok.few_nodes)) (rw (← part, ← known) c.last_after.ensures)),

@@ -13,7 +13,7 @@ add_pair-n-requires c = let p = c.requires in
 pub loop-r-preserved : goal.loop-r-preserved
 loop-r-preserved c = let p = c.requires in
     let g = c.add_pair-n in
-    rowing_more c.loop-r.invariant p.2 p.3 c.loop-r-test.true _ _ g.auto.0 g.ensures
+    rowing_more c.loop-r.invariant p.2 p.3 c.loop-r-test.true _ _ g.auto.work g.ensures
 
 pub returns : goal.returns
 returns c = let p = c.requires in rowing_end c.loop-r.invariant p.2 p.3 c.loop-r-test.false

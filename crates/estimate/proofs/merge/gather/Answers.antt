@@ -32,26 +32,26 @@ put_heads-states-requires c =
     let l = c.list_runs-count in
     let r = c.split_runs-rests in
     let few : l.result ≤ 64 = omega (arith, l.ensures.few, p.2, length-take a.m (drop a.from T)) in
-    let end : length l.new.1.0 - 1 ≡ 64 = omega (arith, l.ensures.same) in
-    let come = all_to_come S a.ways a.x (take l.result l.new.1.0) l.ensures.listed in
+    let end : length l.new.heads - 1 ≡ 64 = omega (arith, l.ensures.same) in
+    let come = all_to_come S a.ways a.x (take l.result l.new.heads) l.ensures.listed in
     let is = gathered_is a.ways a.x S p.1 p.6 in
-    let same = slot_same listing _ _ _ _ r.ensures.0 a.from a.m p.3 in (
+    let same = slot_same listing _ _ _ _ r.ensures.in_scratch a.from a.m p.3 in (
       p.0,
       p.1,
       p.2,
       p.3,
-      omega (arith, p.4, r.auto.0),
-      omega (arith, r.auto.1.0),
+      omega (arith, p.4, r.auto.work),
+      omega (arith, r.auto.parts),
       rw same p.6,
       rw same p.7,
       omega (arith, few, l.ensures.same),
       omega (arith, l.ensures.same),
       beyond_as l.result _ _ l.ensures.beyond l.result (le_refl _) ∙ get_or-replicate 65 l.result 18446744073709551615 0 (omega (arith, few)),
-      ap (λ (i : ℕ). get_or l.new.1.0 i 0) end ∙ beyond_as l.result _ _ l.ensures.beyond 64 few ∙ get_or-replicate 65 64 18446744073709551615 0 (omega arith),
-      rw same (all_wait a.ways a.x S r.new.1.0 (take l.result l.new.1.0) l.ensures.listed.heads r.ensures.1.1),
-      r.ensures.0.count ∙ ap length (sym r.ensures.0.table),
-      scratch_rising listing _ _ _ _ r.ensures.0 (rising_is (add (map (alone a.ways a.x) S) []) (rising_add (map (alone a.ways a.x) S) [] tt)),
-      rw (same, r.ensures.0.table) (subst (λ (Y : List State). length Y ≤ 1088) (sym (come (add (map (alone a.ways a.x) S) []))) (is.1 (omega (arith, p.2, length-take a.m (drop a.from T))))),
+      ap (λ (i : ℕ). get_or l.new.heads i 0) end ∙ beyond_as l.result _ _ l.ensures.beyond 64 few ∙ get_or-replicate 65 64 18446744073709551615 0 (omega arith),
+      rw same (all_wait a.ways a.x S r.new.parts (take l.result l.new.heads) l.ensures.listed.heads r.ensures.every),
+      r.ensures.in_scratch.count ∙ ap length (sym r.ensures.in_scratch.table),
+      scratch_rising listing _ _ _ _ r.ensures.in_scratch (rising_is (add (map (alone a.ways a.x) S) []) (rising_add (map (alone a.ways a.x) S) [] tt)),
+      rw (same, r.ensures.in_scratch.table) (subst (λ (Y : List State). length Y ≤ 1088) (sym (come (add (map (alone a.ways a.x) S) []))) (is.1 (omega (arith, p.2, length-take a.m (drop a.from T))))),
     )
 
 pub returns : goal.returns
@@ -61,5 +61,5 @@ returns c =
     let S = take a.m (drop a.from (table_of a.work.now)) in
     let l = c.list_runs-count in
     let r = c.split_runs-rests in
-    let same = slot_same listing _ _ _ _ r.ensures.0 a.from a.m p.3 in
-    let come = all_to_come S a.ways a.x (take l.result l.new.1.0) l.ensures.listed in record { in_scratch = rw (← (gathered_is a.ways a.x S p.1 p.6).0, ← come (add (map (alone a.ways a.x) S) [])) (scratch_more listing _ _ _ _ r.ensures.0 _ _ _ (rw same at c.put_heads-states.ensures)); aside_value = ap (λ (u : Units). u.0) c.add-aside.ensures ∙ ap (more a.aside.0) r.ensures.1.0 }
+    let same = slot_same listing _ _ _ _ r.ensures.in_scratch a.from a.m p.3 in
+    let come = all_to_come S a.ways a.x (take l.result l.new.heads) l.ensures.listed in record { in_scratch = rw (← (gathered_is a.ways a.x S p.1 p.6).0, ← come (add (map (alone a.ways a.x) S) [])) (scratch_more listing _ _ _ _ r.ensures.in_scratch _ _ _ (rw same at c.put_heads-states.ensures)); aside_value = ap (λ (u : Units). u.0) c.add-aside.ensures ∙ ap (more a.aside.0) r.ensures.left_value }

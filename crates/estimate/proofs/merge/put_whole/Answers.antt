@@ -59,7 +59,7 @@ loop-i-preserved c = let a = c.args in let p = c.requires in
     let next = made_next (part a.ways a.x a.k) S X l.i c.load-s.result low read in
     let put = c.put_next-so_far in (
       search rules,
-      put.auto.0 ∙ l.invariant.1,
+      put.auto.work ∙ l.invariant.1,
       rw (← next) (scratch_more listing _ _ _ _ l.invariant.2 _ _ _ put.ensures.0),
       rw (← next) (to_on a.ways a.x a.k S p.1 p.0.1 l.i _ _ l.invariant.3 _ l.invariant.2.table c.load-s.result low read _ put.ensures.1),
     )

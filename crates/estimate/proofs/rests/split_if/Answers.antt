@@ -31,10 +31,7 @@ long from m ws l room = stretch_long from m (table_of ws) (omega (arith, fits_ta
 pub returns-then-not-keeps_in : goal.returns-then-not-keeps_in
 returns-then-not-keeps_in c = let a = c.args in let p = c.requires in
     let T = take a.m (drop a.from (table_of a.work.now)) in
-    let still = still_kept a.ways a.x T a.head p.11 (sym c.keeps_in.ensures ∙ c.if-not-keeps_in.true) in (
-      scratch_stays states_read _ a.rests.states a.work.now (omega (arith, p.5, p.7)) (still_added a.ways a.x T a.head still _),
-      (omega (arith, still_left a.ways a.x T a.head still), (still_split a.ways a.x T a.head still p.11.0.inside a.parts.now, parts_same a.ways a.from (table_of a.work.now) a.parts.now)),
-    )
+    let still = still_kept a.ways a.x T a.head p.11 (sym c.keeps_in.ensures ∙ c.if-not-keeps_in.true) in record { in_scratch = scratch_stays states_read _ a.rests.states a.work.now (omega (arith, p.5, p.7)) (still_added a.ways a.x T a.head still _); left_value = omega (arith, still_left a.ways a.x T a.head still); split_in = (still_split a.ways a.x T a.head still p.11.0.inside a.parts.now, parts_same a.ways a.from (table_of a.work.now) a.parts.now) }
 
 pub returns-then-held_of-eq0 : goal.returns-then-held_of-eq0
 returns-then-held_of-eq0 c = let a = c.args in let p = c.requires in
@@ -43,10 +40,7 @@ returns-then-held_of-eq0 c = let a = c.args in let p = c.requires in
     let safe : shared (mask_in T a.head) a.x.mates ≡ 0 =
     ap (λ (C : ℕ). shared C a.x.mates) (mask_there a.from a.m a.work.now a.head _ c.start_in-start.ensures (omega (arith, within, p.11.0.some)) (omega (arith, p.4, p.5)))
     ∙ sym c.held_of.ensures ∙ c.if-held_of-eq0.true in
-    let still = still_safe a.ways a.x T a.head p.11 safe in (
-      scratch_stays states_read _ a.rests.states a.work.now (omega (arith, p.5, p.7)) (still_added a.ways a.x T a.head still _),
-      (omega (arith, still_left a.ways a.x T a.head still), (still_split a.ways a.x T a.head still p.11.0.inside a.parts.now, parts_same a.ways a.from (table_of a.work.now) a.parts.now)),
-    )
+    let still = still_safe a.ways a.x T a.head p.11 safe in record { in_scratch = scratch_stays states_read _ a.rests.states a.work.now (omega (arith, p.5, p.7)) (still_added a.ways a.x T a.head still _); left_value = omega (arith, still_left a.ways a.x T a.head still); split_in = (still_split a.ways a.x T a.head still p.11.0.inside a.parts.now, parts_same a.ways a.from (table_of a.work.now) a.parts.now) }
 
 pub split_run-requires : goal.split_run-requires
 split_run-requires c = let a = c.args in let p = c.requires in
@@ -83,10 +77,4 @@ returns c = let a = c.args in let p = c.requires in
     let loses = run_loses a.ways a.x T a.head p.11 (sym c.keeps_in.ensures ∙ c.if-not-keeps_in.false) held in
     let run : take l.result (drop (a.from + s.result) W) ≡ run_in T a.head = rw (start, n) (sym (run_there W a.from a.m (start_in a.head) (length_in a.head) within)) in
     let same : map (rest_in a.ways a.own) (take l.result (drop (a.from + s.result) W)) ≡ map (alone a.ways a.x) (run_in T a.head) =
-    ap (map (rest_in a.ways a.own)) run ∙ loses_added a.ways a.x p.1 p.0.1 a.own p.2 (run_in T a.head) loses in (
-      rw (← same) e.0,
-      (
-        e.1.0 ∙ ap (a.rests.left +◌) (ap (sum_over (λ s. units_of s % a.ways)) run ∙ loses_left a.ways a.x (run_in T a.head) loses),
-        (split_done a.from a.m W a.ways a.x r.new.1.0 a.head s.result l.result start n within e.1.1.0, e.1.1.1),
-      ),
-    )
+    ap (map (rest_in a.ways a.own)) run ∙ loses_added a.ways a.x p.1 p.0.1 a.own p.2 (run_in T a.head) loses in record { in_scratch = rw (← same) e.in_scratch; left_value = e.left_value ∙ ap (a.rests.left +◌) (ap (sum_over (λ s. units_of s % a.ways)) run ∙ loses_left a.ways a.x (run_in T a.head) loses); split_in = (split_done a.from a.m W a.ways a.x r.new.parts a.head s.result l.result start n within e.by_index.0, e.by_index.1) }

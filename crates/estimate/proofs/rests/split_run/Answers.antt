@@ -85,7 +85,7 @@ loop-i-preserved c = let a = c.args in let p = c.requires in
     let part : split.result.part.0 ≡ units_of (state_at W place) / a.ways =
     split_part split.result _ a.ways split.ensures ∙ ap (◌/ a.ways) (sym units ∙ ap units_of (read ∙ state_there W (a.from + a.start) a.m l.i (omega (arith, test.true)))) in (
       search rules,
-      added.auto.0 ∙ l.invariant.1,
+      added.auto.work ∙ l.invariant.1,
       length-set l.parts _ _ ∙ l.invariant.2,
       rw (← made_next (rest_in a.ways a.own) S X l.i s low read) (scratch_more listing _ _ _ _ l.invariant.3 _ _ _ (rest_put a.ways a.own s _ rest _ _ _ _ added.ensures.0)),
       omega (arith, added.ensures.1, l.invariant.4, rest, sum_next (λ s. units_of s % a.ways) S l.i s low read),
@@ -98,7 +98,4 @@ returns c = let a = c.args in let l = c.loop-i in
     let W = table_of a.work.now in
     let S = take a.m (drop (a.from + a.start) W) in
     let past : l.i ≡ a.m = omega (arith, l.invariant.0, c.loop-i-test.false) in
-    let short : length S ≤ l.i = omega (arith, length-take a.m (drop (a.from + a.start) W), min-le_left a.m (length (drop (a.from + a.start) W))) in (
-      rw (← made_all (rest_in a.ways a.own) S (take a.rests.states (drop 4096 W)) l.i short) l.invariant.3,
-      (l.invariant.4 ∙ ap (a.rests.left +◌) (sum_all (λ s. units_of s % a.ways) S l.i short), (λ j k. l.invariant.5 j (omega arith), l.invariant.6)),
-    )
+    let short : length S ≤ l.i = omega (arith, length-take a.m (drop (a.from + a.start) W), min-le_left a.m (length (drop (a.from + a.start) W))) in record { in_scratch = rw (← made_all (rest_in a.ways a.own) S (take a.rests.states (drop 4096 W)) l.i short) l.invariant.3; left_value = l.invariant.4 ∙ ap (a.rests.left +◌) (sum_all (λ s. units_of s % a.ways) S l.i short); by_index = (λ j k. l.invariant.5 j (omega arith), l.invariant.6) }

@@ -78,25 +78,19 @@ loop-i-preserved c = let a = c.args in let p = c.requires in
     let long = stretch_long a.from a.m W (omega (arith, p.3, fits_table a.work.now 4096 (omega (arith, p.4)))) in
     let within : start_in h + length_in h ≤ a.m = omega (arith, long, (subst (Whole a.ways a.x T) (sym there) (head_whole T hs a.ways a.x p.8 l.i low)).0.inside) in (
       search rules,
-      r.auto.0 ∙ l.invariant.1,
-      r.auto.1.0 ∙ l.invariant.2,
-      rw (← rests_next T hs l.i h low there (alone a.ways a.x)) (scratch_more listing _ _ _ _ l.invariant.3 _ _ _ (rw same at e.0)),
-      omega (arith, rw same at e.1.0, l.invariant.4, left_next T hs l.i h low there (left_over a.ways a.x)),
-      every_next T hs l.i h low there (λ g. (start_in g + length_in g ≤ a.m) × SplitIn a.ways a.x T r.new.1.0 g)
-          (every_weaker (λ g. (start_in g + length_in g ≤ a.m) × SplitIn a.ways a.x T l.parts g) (λ g. (start_in g + length_in g ≤ a.m) × SplitIn a.ways a.x T r.new.1.0 g)
-          (λ g q. (q.0, split_kept a.from a.m (table_of l.work) a.ways a.x l.parts r.new.1.0 e.1.1.1 T same g q.0 q.1)) (take l.i hs) l.invariant.5)
-          (within, subst (λ (U : List State). SplitIn a.ways a.x U r.new.1.0 h) same e.1.1.0),
+      r.auto.work ∙ l.invariant.1,
+      r.auto.parts ∙ l.invariant.2,
+      rw (← rests_next T hs l.i h low there (alone a.ways a.x)) (scratch_more listing _ _ _ _ l.invariant.3 _ _ _ (rw same at e.in_scratch)),
+      omega (arith, rw same at e.left_value, l.invariant.4, left_next T hs l.i h low there (left_over a.ways a.x)),
+      every_next T hs l.i h low there (λ g. (start_in g + length_in g ≤ a.m) × SplitIn a.ways a.x T r.new.parts g)
+          (every_weaker (λ g. (start_in g + length_in g ≤ a.m) × SplitIn a.ways a.x T l.parts g) (λ g. (start_in g + length_in g ≤ a.m) × SplitIn a.ways a.x T r.new.parts g)
+          (λ g q. (q.0, split_kept a.from a.m (table_of l.work) a.ways a.x l.parts r.new.parts e.split_in.1 T same g q.0 q.1)) (take l.i hs) l.invariant.5)
+          (within, subst (λ (U : List State). SplitIn a.ways a.x U r.new.parts h) same e.split_in.0),
     )
 
 pub returns : goal.returns
 returns c = let a = c.args in let l = c.loop-i in
     let T = take a.m (drop a.from (table_of a.work.now)) in
     let hs = take a.count a.heads.now in
-    let short : length hs ≤ l.i = omega (arith, l.invariant.0, c.loop-i-test.false, length-take-le a.count a.heads.now c.requires.5) in (
-      rw (← rests_all T hs a.ways a.x c.requires.8 l.i short (alone a.ways a.x)) l.invariant.3,
-      (
-        l.invariant.4 ∙ left_all T hs a.ways a.x c.requires.8 l.i short (left_over a.ways a.x),
-        subst (Every (SplitIn a.ways a.x T l.parts)) (take_all l.i hs short)
-            (every_weaker (λ g. (start_in g + length_in g ≤ a.m) × SplitIn a.ways a.x T l.parts g) (SplitIn a.ways a.x T l.parts) (λ g q. q.1) (take l.i hs) l.invariant.5),
-      ),
-    )
+    let short : length hs ≤ l.i = omega (arith, l.invariant.0, c.loop-i-test.false, length-take-le a.count a.heads.now c.requires.5) in record { in_scratch = rw (← rests_all T hs a.ways a.x c.requires.8 l.i short (alone a.ways a.x)) l.invariant.3; left_value = l.invariant.4 ∙ left_all T hs a.ways a.x c.requires.8 l.i short (left_over a.ways a.x); every = subst (Every (SplitIn a.ways a.x T l.parts)) (take_all l.i hs short)
+            (every_weaker (λ g. (start_in g + length_in g ≤ a.m) × SplitIn a.ways a.x T l.parts g) (SplitIn a.ways a.x T l.parts) (λ g q. q.1) (take l.i hs) l.invariant.5) }

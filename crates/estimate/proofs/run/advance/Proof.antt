@@ -14,16 +14,16 @@ use Rattle.estimate.proofs.run.advance.Tie as tie
 target : (c : tie.After-aim-x) → let a = c.args in c.aim-x.result ≡ target_of a.cache.sets a.tracked.now a.last a.block
 target c =
     let a = c.args in
-    let r = c.pre.ranges in
+    let r = c.requires.ranges in
     aim_so a.cache.sets a.tracked.now r.few_tracked r.known_sets a.last a.block _ c.aim-x.ensures
 
 aims : (c : tie.After-aim-x) → Aimed c.args.cache.sets c.args.tracked.now c.aim-x.result
-aims c = let a = c.args in aimed_so _ _ c.pre.ranges.known_sets a.last a.block _ (target c)
+aims c = let a = c.args in aimed_so _ _ c.requires.ranges.known_sets a.last a.block _ (target c)
 
 gather-requires : tie.Need-gather-gathered-requires
 gather-requires c κs =
     let a = c.args in
-    let p = c.pre in (
+    let p = c.requires in (
       placed a.cache.ways a.cache.sets a.tracked.now p.ranges.few_ways p.ranges.few_tracked _ (aims c.before.before.before),
       p.ranges.few_ways,
       p.count,
@@ -37,17 +37,17 @@ gather-requires c κs =
 settle-requires : tie.Need-settle-requires
 settle-requires c κs =
     let a = c.args in
-    let p = c.pre in
+    let p = c.requires in
     let g = c.gather-gathered in
     let fits = gathered_fits a.cache a.tracked.now a.limit 4095 _ _ _ _ _ p.ranges (aims c.before.before.before.before.before.before.before.before) p.table g.ensures.0 in
-    (omega (arith, p.room, g.kept.0), p.slot, fits.0, p.ranges.some_states, p.ranges.few_states, fits.1)
+    (omega (arith, p.room, g.auto.work), p.slot, fits.0, p.ranges.some_states, p.ranges.few_states, fits.1)
 
 returns : tie.Need-returns
 returns c =
     let a = c.args in
     let g = c.gather-gathered in
     let x = c.aim-x in
-    advanced a.cache.ways a.limit x.result _ (work_at a.at a.tally.states a.tally.aside.0 a.work.now) a.at _ _ _ _ _ _ _ (target c.before.before.before.before.before.before.before.before.before.before.before) (omega (arith, c.pre.slot)) g.ensures.0 g.ensures.1 c.settle.ensures
+    advanced a.cache.ways a.limit x.result _ (work_at a.at a.tally.states a.tally.aside.0 a.work.now) a.at _ _ _ _ _ _ _ (target c.before.before.before.before.before.before.before.before.before.before.before) (omega (arith, c.requires.slot)) g.ensures.0 g.ensures.1 c.settle.ensures
 
 pub advance_spec : {M : Type 1} → statement M
 advance_spec =

@@ -16,6 +16,6 @@ returns c = let w = c.args.work.now in
     let f = c.fold_down in
     let fits : 20480 ≤ length w = omega (arith, c.requires.0) in
     record {
-      stands = rw (back_scratch states_read w 4096 f.new.0 fits, ← part_table states_read w 4096) f.ensures;
-      before = back_slots states_read w 4096 f.new.0 fits;
+      stands = rw (back_scratch states_read w 4096 f.new.words fits, ← part_table states_read w 4096) f.ensures;
+      before = back_slots states_read w 4096 f.new.words fits;
     }

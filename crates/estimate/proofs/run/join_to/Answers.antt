@@ -19,7 +19,7 @@ settle-done-requires c = let a = c.args in
     let T = table_of a.work.now in
     let g = c.pair_entry-paired in
     let fits = by_entry_fits a.counts.now a.rows.now a.number p.7 _ _ _ _ _ (omega (arith, length-take a.begun.states (drop a.at T), p.2)) (omega (arith, length-take a.m (drop a.other T), p.4)) g.ensures.0 in
-    (omega (arith, p.0, g.auto.0), p.1, fits.0, p.5, p.6, fits.1)
+    (omega (arith, p.0, g.auto.work), p.1, fits.0, p.5, p.6, fits.1)
 
 pub returns : goal.returns
 returns c = let a = c.args in

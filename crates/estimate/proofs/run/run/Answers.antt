@@ -28,12 +28,12 @@ loop-i-preserved c = let a = c.args in
     let next = 4096 - (length a.accesses.now - (l.i + 1)) in (
       search rules,
       search rules,
-      ready_next a.cache t a.limit (4096 - (length a.accesses.now - l.i)) next a.at _ _ _ _ l _ l.work g.new.0 (omega (arith, c.requires.0)) g.auto.0 l.invariant.2 g.ensures,
-      g.ensures ∙ l.invariant.3,
-      rw (add-one l.i, c.accessed-before.ensures, stands_work _ _ _ _ _ _ g.ensures) (ran_next states a.cache.ways a.cache.sets a.limit t a.accesses.now l.i l _ _ _ _ (omega arith) refl l.invariant.4),
+      ready_next a.cache t a.limit (4096 - (length a.accesses.now - l.i)) next a.at _ _ _ _ l.before _ l.work g.new.work (omega (arith, c.requires.0)) g.auto.work l.invariant.2 g.ensures,
+      g.ensures.before ∙ l.invariant.3,
+      rw (add-one l.i, c.accessed-before.ensures, stands_work _ _ _ _ _ _ g.ensures) (ran_next states a.cache.ways a.cache.sets a.limit t a.accesses.now l.i l.before _ _ _ _ (omega arith) refl l.invariant.4),
     )
 
 pub returns : goal.returns
 returns c = let a = c.args in
     let l = c.loop-i in
-    ran_stands a.cache a.tracked.now a.limit _ a.at _ _ l.i a.accesses.now l.work l _ _ _ (omega arith) l.invariant.2 l.invariant.3 l.invariant.4
+    ran_stands a.cache a.tracked.now a.limit _ a.at _ _ l.i a.accesses.now l.work l.before _ _ _ (omega arith) l.invariant.2 l.invariant.3 l.invariant.4

@@ -14,10 +14,10 @@ fold_scratch-folded-requires c = let p = c.requires in (omega (arith, p.0, p.2),
 pub copy-requires : goal.copy-requires
 copy-requires c = let f = c.fold_scratch-folded in
     let few : f.result.states ≤ c.args.limit = rw f.ensures.stands.count (length_folded c.args.limit _ c.requires.3) in
-    (omega (arith, few, f.auto.0, c.requires.0, c.requires.4), omega (arith, few, f.auto.0, c.requires.0, c.requires.1, c.requires.4), inl (omega (arith, few, c.requires.1, c.requires.4)))
+    (omega (arith, few, f.auto.work, c.requires.0, c.requires.4), omega (arith, few, f.auto.work, c.requires.0, c.requires.1, c.requires.4), inl (omega (arith, few, c.requires.1, c.requires.4)))
 
 pub returns : goal.returns
 returns c = let f = c.fold_scratch-folded in
     let few : f.result.states ≤ c.args.limit = rw f.ensures.stands.count (length_folded c.args.limit _ c.requires.3) in
-    settled _ c.args.at _ _ (table_of c.args.work.now) _ _ c.requires.1 (omega (arith, few, c.requires.4)) (fits_table _ 5184 (omega (arith, f.auto.0, c.requires.0)))
-    f.ensures.stands f.ensures c.copy.ensures
+    settled _ c.args.at _ _ (table_of c.args.work.now) _ _ c.requires.1 (omega (arith, few, c.requires.4)) (fits_table _ 5184 (omega (arith, f.auto.work, c.requires.0)))
+    f.ensures.stands f.ensures.before c.copy.ensures

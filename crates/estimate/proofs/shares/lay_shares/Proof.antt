@@ -67,7 +67,7 @@ loop-again c = let l = c.loop-i in
     let f = finds c.before.before.before.before.before.before.before.before.before _ _ l.work l.invariant.2 l.i c.loop-i-test.true in
     let put = c.lay-states in (
       search rules,
-      put.auto.0 ∙ l.invariant.1,
+      put.auto.work ∙ l.invariant.1,
       rw (← laid_next (U c.before.before.before.before.before.before.before.before.before) (X c.before.before.before.before.before.before.before.before.before) l.i (next c.before.before.before.before.before.before.before.before.before l.work l.i) f.low f.share) (scratch_then (λ Y. Y ++ present (next c.before.before.before.before.before.before.before.before.before l.work l.i ∷ [])) _ _ _ _ l.invariant.2 _ _ put.ensures),
     )
 

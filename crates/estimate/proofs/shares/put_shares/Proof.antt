@@ -77,7 +77,7 @@ loop-again c = let l = c.loop-i in
     let more = added_next (U c.before.before.before.before.before.before.before.before.before) (X c.before.before.before.before.before.before.before.before.before) l.i (next c.before.before.before.before.before.before.before.before.before l.work l.i) f.low f.share in
     let put = c.add_share-so_far in (
       search rules,
-      put.auto.0 ∙ l.invariant.1,
+      put.auto.work ∙ l.invariant.1,
       rw (← more) (scratch_more listing _ _ _ _ l.invariant.2 _ _ _ put.ensures.0),
       rw (← more) (onto_next (U c.before.before.before.before.before.before.before.before.before) c.requires.7 l.i (next c.before.before.before.before.before.before.before.before.before l.work l.i) f.low f.share (added (U c.before.before.before.before.before.before.before.before.before) (X c.before.before.before.before.before.before.before.before.before) l.i) l.so_far.at _ l.invariant.3 (rw l.invariant.2.table at put.ensures.1)),
     )
