@@ -10,6 +10,7 @@ use Rattle.rules.specs.Best.{kind}
 use Rattle.tables.proofs.Folding.{other_within, fewest_start, fewest_less, fewest_more, fewest_end}
 use Rattle.best.proofs.Folding.{partner_start, partner_closer, partner_other, choice_found}
 use Rattle.best.proofs.fold.choose.Goals as goal
+use Rattle.best.proofs.fold.choose.Goals.{then-u-units, else-u-units, then-closer, else-closer}
 
 pub search-init : goal.search-init
 search-init c = let a = c.args in
@@ -21,13 +22,14 @@ search-preserved c =
     let t = table_of a.words.now in
     let room : a.n ≤ length t = fits_table a.words.now a.n (omega arith) in
     let more : c.search.i < a.n = omega arith in
-    let up : c.if-u-units.fewest < c.search.i + 1 = ⊎_elim (λ w. omega arith) (λ w. omega arith) c.if-u-units.branch in (
+    let up : c.if-u-units.fewest < c.search.i + 1 =
+    elim c.if-u-units.branch [ then-u-units w ↦ omega (arith, w.fewest-is) | else-u-units w ↦ omega (arith, w.fewest-is) ] in (
       search rules,
       up,
-      ⊎_elim
-          (λ w. rw (w.1, w.2) (fewest_less kind t a.n room _ _ _ _ more c.load-then-i-n.ensures c.search.invariant.2 w.0.taken))
-          (λ w. rw (w.1, w.2) (fewest_more kind t a.n room _ _ _ _ more c.load-then-i-n.ensures c.search.invariant.2 w.0.left))
-          c.if-u-units.branch,
+      elim c.if-u-units.branch [
+        then-u-units w ↦ rw (w.fewest-is, w.units-is) (fewest_less kind t a.n room _ _ _ _ more c.load-then-i-n.ensures c.search.invariant.2 w.if-u-units.true)
+        | else-u-units w ↦ rw (w.fewest-is, w.units-is) (fewest_more kind t a.n room _ _ _ _ more c.load-then-i-n.ensures c.search.invariant.2 w.if-u-units.false)
+      ],
     )
 
 pub load-first-requires : goal.load-first-requires
@@ -65,10 +67,10 @@ loop-j-preserved c =
     let said = c.closer.ensures in
     let h = c.loop-j.invariant.1 in (
       search rules,
-      ⊎_elim
-          (λ w. rw (w.1, w.2) (partner_closer t a.n room _ among _ _ _ _ next place there _ _ _ _ near said h w.0.taken))
-          (λ w. rw (w.1, w.2) (partner_other t a.n room _ among _ _ _ _ next place there _ _ _ _ near said h w.0.left))
-          c.if-closer.branch,
+      elim c.if-closer.branch [
+        then-closer w ↦ rw (w.partner-is, w.near-is) (partner_closer t a.n room _ among _ _ _ _ next place there _ _ _ _ near said h w.if-closer.true)
+        | else-closer w ↦ rw (w.partner-is, w.near-is) (partner_other t a.n room _ among _ _ _ _ next place there _ _ _ _ near said h w.if-closer.false)
+      ],
     )
 
 pub returns : goal.returns
