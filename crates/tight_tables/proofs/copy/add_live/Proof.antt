@@ -67,20 +67,20 @@ add_live_spec =
     (tie.spec
     invariant-loop
     decreases-loop
-    (λ c. omega (arith, ends c))
-    (λ c. omega (arith, ends c))
-    (λ c. omega (arith, ends c))
-    (λ c. omega (arith, ends c))
-    (λ c. omega (arith, ends c))
-    (λ c. omega (arith, ends c))
-    (λ c. omega (arith, ends c))
-    (λ c. omega (arith, ends c))
-    (λ c. omega (arith, ends c))
-    (λ c. omega (arith, ends c))
+    (λ c. omega (arith, ends c.before))
+    (λ c. omega (arith, ends c.before.before))
+    (λ c. omega (arith, ends c.before.before))
+    (λ c. omega (arith, ends c.before.before))
+    (λ c. omega (arith, ends c.before.before.before))
+    (λ c. omega (arith, ends c.before.before.before))
+    (λ c. omega (arith, ends c.before.before.before.before))
+    (λ c. omega (arith, ends c.before.before.before.before))
+    (λ c. omega (arith, ends c.before.before.before.before.before))
+    (λ c. omega (arith, ends c.before.before.before.before.before))
     loop-holds
     live-row-requires
-    (λ c. omega (arith, inside c))
-    (λ c. omega (arith, inside c))
+    (λ c. omega (arith, inside c.before.before.before))
+    (λ c. omega (arith, inside c.before.before.before))
     add-words-requires
     (λ c. search rules)
     (λ c. search rules)

@@ -56,18 +56,18 @@ sum_live_spec =
     (tie.spec
     invariant-loop
     decreases-loop
-    (λ c. omega (arith, ends c))
-    (λ c. omega (arith, ends c))
+    (λ c. omega (arith, ends c.before))
+    (λ c. omega (arith, ends c.before.before))
     loop-holds
     (λ c. omega (arith, inside c))
     (λ c. omega (arith, inside c))
     (λ c. omega (arith, inside c))
-    (λ c. omega (arith, inside c))
-    (λ c. omega (arith, inside c))
-    (λ c. omega (arith, inside c))
-    (λ c. omega (arith, inside c))
-    (λ c. omega (arith, inside c))
-    (λ c. omega (arith, inside c))
+    (λ c. omega (arith, inside c.before))
+    (λ c. omega (arith, inside c.before))
+    (λ c. omega (arith, inside c.before.before))
+    (λ c. omega (arith, inside c.before.before))
+    (λ c. omega (arith, inside c.before.before))
+    (λ c. omega (arith, inside c.before.before.before))
     (λ c κs. search rules)
     (λ c. search rules)
     (λ c. search rules)
