@@ -34,10 +34,10 @@ pub record Lies {A : Type 0} (k : InWords A) : Type 0 where
   pub at_place : (ws : List ℕ) (i : ℕ) (s : A) → k.table_of (k.stored ws i s) ≡ set (k.table_of ws) i s
 
 states_lie : Lies states
-states_lie = record { many = table-laws.length-tableOf; kept = table-laws.length-stored; at_place = table-laws.table-stored }
+states_lie = record { many = table-laws.length_table_of; kept = table-laws.length_stored; at_place = table-laws.table_stored }
 
 best_states_lie : Lies best_states
-best_states_lie = record { many = best-laws.length-tableOf; kept = best-laws.length-stored; at_place = best-laws.table-stored }
+best_states_lie = record { many = best-laws.length_table_of; kept = best-laws.length_stored; at_place = best-laws.table_stored }
 
 -- what is held: at most 65 states, in 325 words
 pub record Holds (h : Held) : Type 0 where

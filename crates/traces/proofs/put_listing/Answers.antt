@@ -1,25 +1,18 @@
 -- `put_listing` meets its contract: what it puts is the text of what listing answers, in each of its cases.
 use mathlib.Core.Path.{sym, ap, ◌∙◌}
-use Prim.Native.Nat.{◌≤◌}
-use native.Mathlib.Omega.{arith}
-use lib.ListN.{length}
 use lib.Seq.{length-take-le}
 use Rattle.recorder.specs.Calls.{CountLeft}
 use Rattle.writing.specs.Writing.{refused_line}
 use Rattle.writing.proofs.Putting.{put_is, put_then}
 use Rattle.traces.proofs.Saying.{listing_within, listing_said}
 use Rattle.traces.proofs.put_listing.Goals as goal
-use Rattle.traces.proofs.put_listing.Goals.{In-Blocks-2}
 
 -- as many numbers as are answered stand in the room
-within : (c : In-Blocks-2) → c.in-Blocks.n ≤ length c.list_damaged.new.places
-within c = listing_within _ _ c.in-Blocks.is c.list_damaged.ensures
-
 pub slice_bounds-put_places-end : goal.slice_bounds-put_places-end
-slice_bounds-put_places-end c = omega (arith, within (goal.at.slice_bounds-put_places-end c).In-Blocks-2)
+slice_bounds-put_places-end c = listing_within _ _ c.in-Blocks.is c.list_damaged.ensures
 
 pub slice_bounds-put_places-end-in-Blocks : goal.slice_bounds-put_places-end-in-Blocks
-slice_bounds-put_places-end-in-Blocks c = sym (length-take-le _ _ (within (goal.at.slice_bounds-put_places-end-in-Blocks c).In-Blocks-2))
+slice_bounds-put_places-end-in-Blocks c = sym (length-take-le _ _ (listing_within _ _ c.in-Blocks.is c.list_damaged.ensures))
 
 pub returns-in-Blocks : goal.returns-in-Blocks
 returns-in-Blocks c =

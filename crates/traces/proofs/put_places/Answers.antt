@@ -1,6 +1,5 @@
 -- `put_places` meets its contract.
 use mathlib.Core.Path.{refl, ◌∙◌}
-use Prim.Native.Nat.{◌-◌}
 use borrow.Author.Rules.{rules}
 use Rattle.writing.proofs.Putting.{numbers_less, numbers_all}
 use Rattle.traces.proofs.put_places.Goals as goal

@@ -1,25 +1,18 @@
 -- `put_reading` meets its contract: what it puts is the text of what reading answers, in each of its cases.
 use mathlib.Core.Path.{sym, ap, ◌∙◌}
-use Prim.Native.Nat.{◌≤◌}
-use native.Mathlib.Omega.{arith}
-use lib.ListN.{length}
 use lib.Seq.{length-take-le}
 use Rattle.recorder.specs.Calls.{ReadLeft}
 use Rattle.writing.specs.Writing.{refused_line}
 use Rattle.writing.proofs.Putting.{put_is, put_then}
 use Rattle.traces.proofs.Saying.{reading_within, reading_said}
 use Rattle.traces.proofs.put_reading.Goals as goal
-use Rattle.traces.proofs.put_reading.Goals.{In-Accesses-2}
 
 -- as many numbers as are answered stand in the room
-within : (c : In-Accesses-2) → c.in-Accesses.n ≤ length c.read_trace.new.accesses
-within c = reading_within _ _ c.in-Accesses.is c.read_trace.ensures
-
 pub slice_bounds-put_numbers_line-end : goal.slice_bounds-put_numbers_line-end
-slice_bounds-put_numbers_line-end c = omega (arith, within (goal.at.slice_bounds-put_numbers_line-end c).In-Accesses-2)
+slice_bounds-put_numbers_line-end c = reading_within _ _ c.in-Accesses.is c.read_trace.ensures
 
 pub slice_bounds-put_numbers_line-end-in-Accesses : goal.slice_bounds-put_numbers_line-end-in-Accesses
-slice_bounds-put_numbers_line-end-in-Accesses c = sym (length-take-le _ _ (within (goal.at.slice_bounds-put_numbers_line-end-in-Accesses c).In-Accesses-2))
+slice_bounds-put_numbers_line-end-in-Accesses c = sym (length-take-le _ _ (reading_within _ _ c.in-Accesses.is c.read_trace.ensures))
 
 pub returns-in-Accesses : goal.returns-in-Accesses
 returns-in-Accesses c =

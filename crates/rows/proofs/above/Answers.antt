@@ -1,0 +1,7 @@
+-- `above` meets its contract: what is held of the row is asked, and a copied row is asked as the row itself.
+use Rattle.std.proofs.Common.{◌∙◌}
+use Rattle.rows.proofs.Copies.{above_copied}
+use Rattle.rows.proofs.above.Goals as goal
+
+pub returns : goal.returns
+returns c = c.above_held.ensures ∙ rw c.copy.ensures (above_copied _ _)

@@ -1,5 +1,0 @@
--- `budget_held` meets its contract: what is held is asked as a table in words.
-use Rattle.rows.proofs.row.budget_held.Goals as goal
-
-pub returns : goal.returns
-returns c = c.smallest_budget_in.ensures

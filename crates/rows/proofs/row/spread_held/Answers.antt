@@ -1,5 +1,0 @@
--- `spread_held` meets its contract: what is held is asked as a table in words.
-use Rattle.rows.proofs.row.spread_held.Goals as goal
-
-pub returns : goal.returns
-returns c = c.spread_in.ensures
