@@ -1,6 +1,6 @@
 -- The call: its first reason to refuse, and what it leaves.
 use mathlib.Core.Path.{◌≡◌, refl, sym, ap, subst, ◌∙◌}
-use mathlib.Core.Bool.{true, false, ◌||◌, true≢false}
+use mathlib.Core.Bool.{false, ◌||◌, true≢false}
 use mathlib.Core.List.{List, [], ◌∷◌, flat_map}
 use Prim.Native.Nat.{ℕ, suc, ◌-◌, ◌*◌, ◌≤◌, ◌<◌}
 use native.Mathlib.Omega.{arith}
@@ -26,7 +26,6 @@ use Rattle.listing.specs.Expansion.{node_zero, open_node, expanded, graph_of, ru
 use Rattle.listing_form.specs.Counting.{nodes_in, accesses_in, edges_in, capped, size_of, count_of}
 use Rattle.listing.specs.Writing.{Rooms, written, sequence_at, Room, Ready, Wrote}
 use Rattle.listing.specs.Call.{expansion_says, ExpandingLeft, listing_reasons, expanding_leaves, after_expanding}
-use Rattle.listing_form.proofs.Reading.{Holds, Said, in_said, said_short}
 use Rattle.listing_form.proofs.Counts.{unseen}
 use Rattle.listing.proofs.Sizes.{nodes_added, accesses_added, edges_added, edges_by_nodes}
 use Rattle.listing.proofs.Edges.{node_count}

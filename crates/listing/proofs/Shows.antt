@@ -8,7 +8,7 @@ use lib.ListN.{length, set, replicate, length-append, length-map}
 use lib.Seq.{set_at}
 use Rattle.rules.specs.Input.{Edge}
 use Rattle.listing_form.specs.Listing.{Listing, end, access, branch, loop}
-use Rattle.listing.specs.Expansion.{Graph, node_zero, open_node, accessed, opened, times, expanded, runs, lengths, accesses, flat}
+use Rattle.listing.specs.Expansion.{Graph, node_zero, open_node, accessed, opened, times, expanded, lengths, accesses, flat}
 use Rattle.listing_form.specs.Counting.{nodes_in, accesses_in, edges_in}
 use Rattle.listing.specs.Call.{at_front}
 use Rattle.listing.specs.Writing.{Rooms, access_written, edge_written, node_opened, arm_opened, join_opened, written}

@@ -9,7 +9,7 @@ use lib.Dec.{eqb}
 use lib.ListN.{length, get_or, drop, length-drop}
 use borrow.Author.Tests.{ne_eqb}
 use Rattle.listing_form.specs.Listing.{Listing, end, access, branch, loop, followed_by}
-use Rattle.listing_form.specs.Reading.{Reading, kind_of, item, sequence_in, a_loop, nothing, is_broken, listing_in, place_in}
+use Rattle.listing_form.specs.Reading.{kind_of, item, sequence_in, a_loop, nothing, is_broken, listing_in, place_in}
 use Rattle.listing.specs.Expansion.{times}
 use Rattle.listing_form.specs.Counting.{nodes_in, accesses_in, begins_item}
 use Rattle.listing.specs.Writing.{Rooms, access_written, arm_opened, join_opened, written, AccessFits, Fits, sequence_at, item_at, branch_at, loop_at, Room, Ready, ArmReady, RoundsReady, Wrote}
@@ -122,15 +122,6 @@ module _ (ts : List ℕ) (a : ℕ) (w : Rooms) (h : Ready (item_at ts a) (a + 1)
     pub loop_wrote : (q : ℕ) (u : Rooms) → Wrote (loop_at ts a) (length ts) w q u → Wrote (item_at ts a) (length ts) w q u
     loop_wrote q u = subst (λ r. Wrote r (length ts) w q u) (sym (loop_here f k))
 
--- ---- an arm
-
-pub arm_opened_lem : (ts : List ℕ) (p a : ℕ) (w : Rooms) → ArmReady ts p a w → (v : Rooms) → v ≡ arm_opened a w → Ready (sequence_at ts p) p (length ts) v
-arm_opened_lem ts p a w h v e = subst (Ready (sequence_at ts p) p (length ts)) (sym e) h.ready
-
--- what was written from v was written from w, which is the same
-pub wrote_from : (read : Reading) (n : ℕ) (w v : Rooms) (p : ℕ) (u : Rooms) → v ≡ w → Wrote read n v p u → Wrote read n w p u
-wrote_from read n w v p u e o = subst (λ v. Wrote read n v p u) e o
-
 -- ---- a branch
 
 module _ (ts : List ℕ) (a : ℕ) (w : Rooms) (h : Ready (branch_at ts a) (a + 1) (length ts) w) where
@@ -179,9 +170,6 @@ module _ (ts : List ℕ) (a : ℕ) (w : Rooms) (h : Ready (branch_at ts a) (a + 
       right_rooms : v ≡ written right (arm_opened (w.nodes - 1) (written left (arm_opened (w.nodes - 1) w)))
       right_rooms = wr.rooms ∙ rw (second_place, wl.rooms)
 
-      pub join_inside : z < length ts
-      join_inside = omega (arith, right_place, arms.right_to_fact)
-
       pub join_fits : Fits (u.nodes - 1) 2 v.nodes v.links (length v.edges)
       join_fits = rw (right_rooms, wl.rooms) (fits_join left right w room)
 
@@ -206,9 +194,6 @@ module _ (ts : List ℕ) (p n : ℕ) (w : Rooms) (h : RoundsReady ts p n w) wher
 
     pub round_done : (q : ℕ) (u : Rooms) → Wrote (sequence_at ts p) (length ts) v q u → u ≡ times (k + 1) (written body) w
     round_done q u o = o.rooms ∙ ap (written body) so_far ∙ times_last k (written body) w ∙ ap (λ k. times k (written body) w) (sym (add-one k))
-
-    pub rounds_done : k ≡ n → v ≡ times n (written body) w
-    rounds_done all = so_far ∙ ap (λ k. times k (written body) w) all
 
 -- ---- a loop
 
@@ -241,9 +226,6 @@ module _ (ts : List ℕ) (a : ℕ) (w : Rooms) (h : Ready (loop_at ts a) (a + 1)
 
   -- the first round is written: the pass is at place q, and the rooms are u
   module _ (q : ℕ) (u : Rooms) (o : Wrote (sequence_at ts (a + 2)) (length ts) w q u) where
-    pub loop_inside : q < length ts
-    loop_inside = omega (arith, o.place, in_it.body_to)
-
     pub others_ready : RoundsReady ts (a + 2) (get_or ts (a + 1) 0 - 1) u
     others_ready = rw o.rooms (record { good = in_it.body_good; inside = omega (arith, in_it.body_from, in_it.body_to); room = room_others count run w loop_room in_it.some })
 

@@ -284,17 +284,6 @@ pub record Under (ts : List ℕ) (at d : ℕ) (z : Size) : Type 0 where
   pub few_nodes : z.nodes ≤ 4097
   pub few_accesses : z.accesses ≤ 4097
 
-pub reading_start : (ts : List ℕ) (at d : ℕ) → at ≤ length ts → Under ts at d (record { at = at; nodes = 0; accesses = 0 })
-reading_start ts at d l =
-    record { whole = go (sequence_in d (drop at ts)); from = omega arith; to = l; few_nodes = omega arith; few_accesses = omega arith }
-  where
-    go : (r : Reading) → on_from (record { at = at; nodes = 0; accesses = 0 }) (count_of (length ts) r) ≡ count_of (length ts) r
-    go broken = refl
-    go (found s us) =
-        let a : capped (0 + capped (nodes_in s)) ≡ capped (nodes_in s) = omega arith in
-        let b : capped (0 + capped (accesses_in s)) ≡ capped (accesses_in s) = omega arith in
-        rw (a, b)
-
 -- at a place where no item begins, and at one where one does
 module _ (ts : List ℕ) (p d : ℕ) where
   here : p < length ts → sequence_in d (drop p ts)

@@ -1,0 +1,13 @@
+-- `write_graph` meets its contract: the rooms are zeros first, and then what the whole listing writes.
+use Rattle.listing.proofs.Calls.{start_ready, accepted_leaves}
+use Rattle.listing.proofs.write_graph.Goals as goal
+
+pub write_sequence-end-requires : goal.write_sequence-end-requires
+write_sequence-end-requires c =
+    let a = c.args in
+    start_ready a.tokens.now a.runs.now a.accesses.now a.edges.now c.requires _ _ _ c.clear_numbers.ensures c.clear_numbers-2.ensures c.clear_numbers-3.ensures
+
+pub returns : goal.returns
+returns c =
+    let a = c.args in
+    accepted_leaves a.tokens.now a.runs.now a.accesses.now a.edges.now c.requires _ _ _ c.clear_numbers.ensures c.clear_numbers-2.ensures c.clear_numbers-3.ensures _ _ c.write_sequence-end.ensures
