@@ -1,5 +1,5 @@
 -- The answer row: the columns of a slot added up, contents after contents, are the units at each miss count of the table that it stands for.
-use mathlib.Core.Path.{◌≡◌, refl, sym, ◌∙◌}
+use mathlib.Core.Path.{◌≡◌, refl, sym, ◌∙◌, subst}
 use mathlib.Core.Logic.{◌⊎◌, inr, ⊎_elim}
 use mathlib.Core.Bool.{cond}
 use mathlib.Core.List.{List}
@@ -126,8 +126,8 @@ module _ (g : Grid) where
     where
       at_count : (m : ℕ) → m < length rs → Dec (m ≡ L) → words_of (set zs L (words_of zs L + g.lost)) m ≡ units_at m (meaning L (rows_of 0 g))
       at_count m k (yes e) =
-          rw (e, eq-eqb L L refl)
-          (get_or-set_same zs L (words_of zs L + g.lost) 0 (omega (arith, h.long)) ∙ omega (arith, h.word L l, column_units L))
+          subst (λ (n : ℕ). words_of (set zs L (words_of zs L + g.lost)) n ≡ units_at n (meaning L (rows_of 0 g))) (sym e)
+          (rw (eq-eqb L L refl) (get_or-set_same zs L (words_of zs L + g.lost) 0 (omega (arith, h.long)) ∙ omega (arith, h.word L l, column_units L)))
       at_count m k (no d) =
           rw (ne_eqb L m (λ e. d (sym e)))
           (get_or-set_other zs L m (words_of zs L + g.lost) 0 d ∙ omega (arith, h.word m k, column_units m))

@@ -16,35 +16,31 @@ abbrev rooms : tie.Start → GraphRooms
 rooms s = let a = s.args in record { runs = a.runs.now; accesses = a.accesses.now; edges = a.edges.now; output = a.output.now }
 
 -- where the function starts, seen from where the rooms are known to be long enough
-abbrev start_of : tie.Else1 → tie.Start
+abbrev start_of : tie.Else-not-room_for_graph → tie.Start
 start_of c = c.before.before.before.before.before.before.before.before
 
 -- they are long enough
-long : (c : tie.Else1) → enough_for_graph (start_of c).args.numbers.now (rooms (start_of c)) ≡ true
-long c = sym c.before.room-for-graph.ensures ∙ not-false _ c.if1.false
+long : (c : tie.Else-not-room_for_graph) → enough_for_graph (start_of c).args.numbers.now (rooms (start_of c)) ≡ true
+long c = sym c.room_for_graph.ensures ∙ c.if-not-room_for_graph.false
 
-returns : tie.Need-returns
+returns : tie.Need-returns-then-not-room_for_graph
 unfolding after_listing
-returns c = graph_none _ _ (listing_long _) _ _ (sym c.before.room-for-graph.ensures ∙ not-true _ c.if1.true)
+returns c = graph_none _ _ (listing_long _) _ _ (sym c.room_for_graph.ensures ∙ c.if-not-room_for_graph.true)
 
-put-listed-text-requires : tie.Need-put-listed-text-requires
+put-listed-text-requires : tie.Need-put_listed_text-end-requires
 put-listed-text-requires c κs =
-    let able = c.before.before.before.before.before in
-    graph_rooms_long _ _ _ _ (length (start_of able).args.output.now) (long able)
+    graph_rooms_long _ _ _ _ (length (start_of c.before.before.before.before.before).args.output.now) (long c.before.before.before.before.before)
 
-returns-2 : tie.Need-returns-2
+returns-2 : tie.Need-returns
 unfolding after_listing
 returns-2 c =
-    let cleaned = c.before.before in
-    let put = cleaned.before.before.before.before.before.before.before.before.before.before.before.before in
-    let able = put.before.before.before.before.before.before in
-    let text = (start_of able).args.text.now in
-    let p = put.put-listed-text in
-    graph_all (text_expanded text) (listing_of_text text) (listing_long text) (start_of able).args.numbers.now (rooms (start_of able)) (long able) _ _ _ _ _ _
-    (cleared _ p.new.1.0 _ cleaned.clear-numbers.ensures p.auto.1.0) p.ensures
+    let text = (start_of c.before.before.before.before.before.before.before.before.before.before.before.before.before.before.before.before.before.before.before.before).args.text.now in
+    let p = c.put_listed_text-end in
+    graph_all (text_expanded text) (listing_of_text text) (listing_long text) (start_of c.before.before.before.before.before.before.before.before.before.before.before.before.before.before.before.before.before.before.before.before).args.numbers.now (rooms (start_of c.before.before.before.before.before.before.before.before.before.before.before.before.before.before.before.before.before.before.before.before)) (long c.before.before.before.before.before.before.before.before.before.before.before.before.before.before.before.before.before.before.before.before) _ _ _ _ _ _
+    (cleared _ p.new.numbers _ c.clear_numbers.ensures p.auto.numbers) p.ensures
 
-pub graph-of-text-spec : {M : Type 1} → statement M
-graph-of-text-spec =
+pub graph_of_text_spec : {M : Type 1} → statement M
+graph_of_text_spec =
     tie.close
     (tie.spec
     (λ c κs. search rules)

@@ -14,80 +14,68 @@ use Rattle.graphs.proofs.put_listed.Statement.{statement}
 use Rattle.graphs.proofs.put_listed.Tie as tie
 
 -- where the function starts, seen from where the parts end with the numbers; and where they do, seen from the call that expands
-abbrev start_of : tie.Else1 → tie.Start
+abbrev start_of : tie.Else-end_of-numbers → tie.Start
 start_of c = c.before.before.before.before.before.before.before.before
 
-abbrev ended : tie.After-expand-from → tie.Else1
+abbrev ended : tie.After-expand_from → tie.Else-end_of-numbers
 ended c = c.before.before.before.before
 
 -- the parts end with the numbers
-listed : (c : tie.Else1) → Listed (start_of c).args.numbers.now c.before.before.end_of_lem.result
-listed c = listing_ends _ _ _ c.before.before.end_of_lem.ensures c.before.end-of2.ensures c.if1.false
+listed : (c : tie.Else-end_of-numbers) → Listed (start_of c).args.numbers.now c.end_of-first.result
+listed c = listing_ends _ _ _ c.end_of-first.ensures c.end_of.ensures c.if-end_of-numbers.false
 
 -- the listing is expanded
-shown : (c : tie.After-nodes) → let done = c.before.before.before.before.before.before.before.before in
-    let ns = (start_of (ended done)).args.numbers.now in
-    let a = (ended done).before.before.end_of_lem.result in
-    Expanded (take (length ns - (a + 1)) (drop (a + 1) ns)) c.nodes.given.0.0 c.nodes.given.0.1.0 c.nodes.given.0.1.1.0
-    done.expand-from.new.1.1.0 done.expand-from.new.1.1.1.0 done.expand-from.new.1.1.1.1.0
+shown : (c : tie.In-Graph) → let ns = (start_of (ended c.before.before.before.before.before.before.before)).args.numbers.now in
+    let a = (ended c.before.before.before.before.before.before.before).before.before.end_of_lem.result in
+    Expanded (take (length ns - (a + 1)) (drop (a + 1) ns)) c.in-Graph.nodes c.nodes-1.given.0.1.0 c.nodes-1.given.0.1.1.0
+    c.expand_from.new.runs c.expand_from.new.accesses c.expand_from.new.edges
 shown c =
-    let done = c.before.before.before.before.before.before.before.before in
-    let pre = (start_of (ended done)).requires in
-    expansion_shown _ _ _ _ pre.0 pre.1 pre.2 _ _ _ _ done.expand-from.ensures _ _ _ c.nodes.given.1
+    let pre = (start_of (ended c.before.before.before.before.before.before.before)).requires in
+    expansion_shown _ _ _ _ pre.0 pre.1 pre.2 _ _ _ _ c.expand_from.ensures _ _ _ c.in-Graph.is
 
-returns : tie.Need-returns
+returns : tie.Need-returns-then-end_of-numbers
 returns c =
-    let put = c.before.before in
-    let e = put.before.before in
-    let cut = listing_cut _ _ _ e.before.before.end_of_lem.ensures e.before.end-of2.ensures e.if1.true in
-    graph_refused _ _ _ _ _ (incomplete_unexpanded _ cut) (put_is _ _ _ _ _ _ put.Put-refused.ensures (listing_incomplete _ cut)) refl refl refl
+    let cut = listing_cut _ _ _ c.end_of-first.ensures c.end_of.ensures c.if-end_of-numbers.true in
+    graph_refused _ _ _ _ _ (incomplete_unexpanded _ cut) (put_is _ _ _ _ _ _ c.put_refused.ensures (listing_incomplete _ cut)) refl refl refl
 
-expand-from-requires : tie.Need-expand-from-requires
+expand-from-requires : tie.Need-expand_from-requires
 expand-from-requires c κs = (listed c.before.before.before).to
 
-put-expanded-requires : tie.Need-put-expanded-requires
+put-expanded-requires : tie.Need-put_expanded-requires
 put-expanded-requires c κs =
-    let told = c.before.before.before.before.before in
-    let done = told.before.before.before.before.before.before.before.before in
-    let s = shown told in
-    let pre = (start_of (ended done)).requires in
-    let parts = listed (ended done) in (
+    let s = shown c.before.before.before.before in
+    let pre = (start_of (ended c.before.before.before.before.before.before.before.before.before.before.before)).requires in
+    let parts = listed (ended c.before.before.before.before.before.before.before.before.before.before.before) in (
       parts.from,
       omega (arith, parts.to),
-      omega (arith, s.few_nodes, done.expand-from.auto.1.1.0, pre.0),
-      omega (arith, s.few_accesses, done.expand-from.auto.1.1.1.0, pre.1),
-      omega (arith, s.few_edges, done.expand-from.auto.1.1.1.1.0, pre.2),
+      omega (arith, s.few_nodes, c.expand_from.auto.runs, pre.0),
+      omega (arith, s.few_accesses, c.expand_from.auto.accesses, pre.1),
+      omega (arith, s.few_edges, c.expand_from.auto.edges, pre.2),
     )
 
-returns-2 : tie.Need-returns-2
+returns-2 : tie.Need-returns-in-Refused
 returns-2 c =
-    let put = c.before.before in
-    let told = put.before.before.before.before in
-    let done = told.before.before.before.before.before.before.before.before in
-    let pre = (start_of (ended done)).requires in
-    let parts = listed (ended done) in
-    let refused = expansion_refused _ _ _ _ pre.0 pre.1 pre.2 _ _ _ _ done.expand-from.ensures _ told.why.given.1 in
-    let kept = expansion_kept _ _ _ _ pre.0 pre.1 pre.2 _ _ _ _ done.expand-from.ensures _ told.why.given.1 in
+    let pre = (start_of (ended c.before.before.before.before.before.before.before.before.before.before.before.before)).requires in
+    let parts = listed (ended c.before.before.before.before.before.before.before.before.before.before.before.before) in
+    let refused = expansion_refused _ _ _ _ pre.0 pre.1 pre.2 _ _ _ _ c.expand_from.ensures _ c.in-Refused.is in
+    let kept = expansion_kept _ _ _ _ pre.0 pre.1 pre.2 _ _ _ _ c.expand_from.ensures _ c.in-Refused.is in
     graph_refused _ _ _ _ _ (refused_unexpanded _ _ parts _ refused)
-    (put_is _ _ _ _ _ _ put.put-refused2.ensures (listing_refused _ _ parts _ _ put.before.number.ensures refused))
+    (put_is _ _ _ _ _ _ c.put_refused-in-Refused.ensures (listing_refused _ _ parts _ _ c.number.ensures refused))
     kept.0 kept.1 kept.2
 
-returns-3 : tie.Need-returns-3
+returns-3 : tie.Need-returns-in-Graph
 returns-3 c =
-    let put = c.before.before.before.before.before.before.before.before in
-    let told = put.before.before.before.before.before.before in
-    let done = told.before.before.before.before.before.before.before.before in
-    let s = shown told in
-    let parts = listed (ended done) in
-    let wrote = put.put-expanded.ensures in
-    let e = done.expand-from in
+    let s = shown c.before.before.before.before.before.before.before.before.before.before.before.before.before in
+    let parts = listed (ended c.before.before.before.before.before.before.before.before.before.before.before.before.before.before.before.before.before.before.before.before) in
+    let wrote = c.put_expanded.ensures in
+    let e = c.expand_from in
     graph_worked _ _ _ _ _ (shown_expanded _ _ parts _ _ _ _ _ _ s) (put_is _ _ _ _ _ _ wrote.put (listing_shown _ _ parts _ _ _ _ _ _ s))
-    (cleared _ e.new.1.1.0 _ wrote.runs e.auto.1.1.0)
-    (cleared _ e.new.1.1.1.0 _ wrote.accesses e.auto.1.1.1.0)
-    (cleared _ e.new.1.1.1.1.0 _ wrote.edges e.auto.1.1.1.1.0)
+    (cleared _ e.new.runs _ wrote.runs e.auto.runs)
+    (cleared _ e.new.accesses _ wrote.accesses e.auto.accesses)
+    (cleared _ e.new.edges _ wrote.edges e.auto.edges)
 
-pub put-listed-spec : {M : Type 1} → statement M
-put-listed-spec =
+pub put_listed_spec : {M : Type 1} → statement M
+put_listed_spec =
     tie.close
     (tie.spec
     (λ c κs. search rules)

@@ -15,36 +15,33 @@ use Rattle.text.proofs.write_numbers.Tie as tie
 
 -- the rooms that are lent
 abbrev rooms : tie.Start → Rooms
-rooms s = let a = s.args in record { result = a.result.now; work = a.work.now; counts = a.counts.now; output = a.output.now }
+rooms s = let a = s.args in record { result = a.res.now; work = a.work.now; counts = a.counts.now; output = a.output.now }
 
 -- where the function starts, seen from where the rooms are known to be long enough
-abbrev start_of : tie.Else1 → tie.Start
+abbrev start_of : tie.Else-not-has_room → tie.Start
 start_of c = c.before.before.before.before.before.before.before
 
 -- they are long enough
-long : (c : tie.Else1) → enough (wanted_bytes (start_of c).args.wanted) (rooms (start_of c)) ≡ true
-long c = sym c.before.has_room_lem.ensures ∙ not-false _ c.if1.false
+long : (c : tie.Else-not-has_room) → enough (wanted_bytes (start_of c).args.wanted) (rooms (start_of c)) ≡ true
+long c = sym c.has_room.ensures ∙ c.if-not-has_room.false
 
-returns : tie.Need-returns
-returns c = written_none _ _ _ _ (sym c.before.has_room_lem.ensures ∙ not-true _ c.if1.true)
+returns : tie.Need-returns-then-not-has_room
+returns c = written_none _ _ _ _ (sym c.has_room.ensures ∙ c.if-not-has_room.true)
 
-put-form-requires : tie.Need-put-form-requires
+put-form-requires : tie.Need-put_form-requires
 put-form-requires c κs =
-    let able = c.before.before.before.before in
-    let a = (start_of able).args in
-    rooms_long (wanted_bytes a.wanted) _ _ _ (length a.output.now) (long able)
+    let a = (start_of c.before.before.before.before).args in
+    rooms_long (wanted_bytes a.wanted) _ _ _ (length a.output.now) (long c.before.before.before.before)
 
-returns-2 : tie.Need-returns-2
+returns-2 : tie.Need-returns
 returns-2 c =
-    let put = c.before.before.before.before.before.before.before.before in
-    let able = put.before.before.before.before.before in
-    let s = start_of able in
+    let s = start_of c.before.before.before.before.before.before.before.before.before.before.before.before.before in
     let w = s.args.wanted in
     let numbers = s.args.numbers.now in
-    written_all (wanted_bytes w) (numbers_worked plain numbers) (of_numbers (wanted_text w) plain numbers) (rooms s) (numbers_long w plain numbers) (long able) _ _ _ _ _ put.put-form.ensures
+    written_all (wanted_bytes w) (numbers_worked plain numbers) (of_numbers (wanted_text w) plain numbers) (rooms s) (numbers_long w plain numbers) (long c.before.before.before.before.before.before.before.before.before.before.before.before.before) _ _ _ _ _ c.put_form.ensures
 
-pub write-numbers-spec : {M : Type 1} → statement M
-write-numbers-spec =
+pub write_numbers_spec : {M : Type 1} → statement M
+write_numbers_spec =
     tie.close
     (tie.spec
     (λ c κs. search rules)

@@ -16,46 +16,42 @@ use Rattle.text.proofs.write_text.Tie as tie
 
 -- the rooms that are lent
 abbrev rooms : tie.Start → Rooms
-rooms s = let a = s.args in record { result = a.result.now; work = a.work.now; counts = a.counts.now; output = a.output.now }
+rooms s = let a = s.args in record { result = a.res.now; work = a.work.now; counts = a.counts.now; output = a.output.now }
 
 -- where the function starts, seen from where the rooms are known to be long enough
-abbrev start_of : tie.Else2 → tie.Start
+abbrev start_of : tie.Else-not-has_room → tie.Start
 start_of c = c.before.before.before.before.before.before.before.before.before
 
 -- they are long enough
-long : (c : tie.Else2) → enough (wanted_bytes (start_of c).args.wanted) (rooms (start_of c)) ≡ true
-long c = sym c.before.has_room_lem.ensures ∙ not-false _ c.if2.false
+long : (c : tie.Else-not-has_room) → enough (wanted_bytes (start_of c).args.wanted) (rooms (start_of c)) ≡ true
+long c = sym c.has_room.ensures ∙ c.if-not-has_room.false
 
-returns : tie.Need-returns
-returns c = few_numbers _ _ _ _ _ c.if1.true
+returns : tie.Need-returns-then-numbers-lt16384
+returns c = few_numbers _ _ _ _ _ c.if-numbers-lt16384.true
 
-returns-2 : tie.Need-returns-2
-returns-2 c = text_none _ _ _ _ _ c.before.before.if1.false (sym c.before.has_room_lem.ensures ∙ not-true _ c.if2.true)
+returns-2 : tie.Need-returns-then-not-has_room
+returns-2 c = text_none _ _ _ _ _ c.if-numbers-lt16384.false (sym c.has_room.ensures ∙ c.if-not-has_room.true)
 
-put-text-requires : tie.Need-put-text-requires
+put-text-requires : tie.Need-put_text-end-requires
 put-text-requires c κs =
-    let able = c.before.before.before.before.before in
-    let a = (start_of able).args in
-    let (result, work, counts) = rooms_long (wanted_bytes a.wanted) (length a.result.now) (length a.work.now) (length a.counts.now) (length a.output.now) (long able) in
-    (able.before.before.if1.false, result, work, counts)
+    let a = (start_of c.before.before.before.before.before).args in
+    let (result, work, counts) = rooms_long (wanted_bytes a.wanted) (length a.result.now) (length a.work.now) (length a.counts.now) (length a.output.now) (long c.before.before.before.before.before) in
+    (c.if-numbers-lt16384.false, result, work, counts)
 
-returns-3 : tie.Need-returns-3
+returns-3 : tie.Need-returns
 returns-3 c =
-    let clean = c.before.before in
-    let put = clean.before.before.before.before.before.before.before.before.before.before.before.before in
-    let able = put.before.before.before.before.before.before in
-    let s = start_of able in
+    let s = start_of c.before.before.before.before.before.before.before.before.before.before.before.before.before.before.before.before.before.before.before.before in
     let a = s.args in
     let bytes = wanted_bytes a.wanted in
     let worked = text_worked (form_worked a.form) a.text.now in
     let text = of_text (of_form a.form (wanted_text a.wanted)) a.text.now in
-    let p = put.put-text in
-    text_all bytes worked text a.numbers.now (rooms s) able.before.before.if1.false (long able) _ _
-    (cleared _ p.new.1.1.1.0 _ clean.clear-numbers.ensures p.auto.1.1.1.0)
-    (written_all bytes worked text (rooms s) (form_text_long a.form a.wanted a.text.now) (long able) _ _ _ _ _ p.ensures)
+    let p = c.put_text-end in
+    text_all bytes worked text a.numbers.now (rooms s) c.if-numbers-lt16384.false (long c.before.before.before.before.before.before.before.before.before.before.before.before.before.before.before.before.before.before.before.before) _ _
+    (cleared _ p.new.numbers _ c.clear_numbers.ensures p.auto.numbers)
+    (written_all bytes worked text (rooms s) (form_text_long a.form a.wanted a.text.now) (long c.before.before.before.before.before.before.before.before.before.before.before.before.before.before.before.before.before.before.before.before) _ _ _ _ _ p.ensures)
 
-pub write-text-spec : {M : Type 1} → statement M
-write-text-spec =
+pub write_text_spec : {M : Type 1} → statement M
+write_text_spec =
     tie.close
     (tie.spec
     returns

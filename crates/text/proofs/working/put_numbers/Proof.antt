@@ -10,43 +10,36 @@ use Rattle.text.proofs.working.put_numbers.Statement.{statement}
 use Rattle.text.proofs.working.put_numbers.Tie as tie
 
 -- where the function starts, seen from the graph call
-abbrev start_of : tie.After-analyse-numbers → tie.Start
+abbrev start_of : tie.After-analyse_numbers → tie.Start
 start_of c = c.before.before.before.before.before.before.before.before
 
 -- what the graph call left
-left : (c : tie.After-analyse-numbers) → let a = (start_of c).args in
-    Called a.choice a.numbers.now c.analyse-numbers.result a.result.now a.work.now c.analyse-numbers.new.1.1.0 c.analyse-numbers.new.1.1.1.0
+left : (c : tie.After-analyse_numbers) → let a = (start_of c).args in
+    Called a.choice a.numbers.now c.analyse_numbers.result a.result.now a.work.now c.analyse_numbers.new.res c.analyse_numbers.new.work
 left c =
     let s = start_of c in
-    called s.args.choice s.args.numbers.now s.args.res.now s.args.work.now s.pre.0 s.pre.1 _ _ _ c.analyse-numbers.ensures
+    called s.args.choice s.args.numbers.now s.args.res.now s.args.work.now s.requires.0 s.requires.1 _ _ _ c.analyse_numbers.ensures
 
-put-finished-requires : tie.Need-put-finished-requires
+put-finished-requires : tie.Need-put_finished-requires
 put-finished-requires c κs =
-    let told = c.before.before.before.before in
-    let call = told.before.before.before.before.before.before in
-    (left_finished _ _ _ _ _ _ _ (left call) _ _ told.states.given.1, (start_of call).requires.2)
+    (left_finished _ _ _ _ _ _ _ (left c.before.before.before.before.before.before.before.before) _ _ c.in-Finished.is, (start_of c.before.before.before.before.before.before.before.before).requires.2)
 
-returns : tie.Need-returns
+returns : tie.Need-returns-in-Refused
 returns c =
-    let put = c.before.before in
-    let told = put.before.before.before.before in
-    let call = left told.before.before.before.before.before.before in
-    let kept = call.refused _ told.why.given.1 in
-    let f = sym told.why.given.1 ∙ call.answer in
-    wrote_refused _ _ _ _ _ (refused_unworked _ _ _ f) (put_is _ _ _ _ _ _ put.Put-refused.ensures (printed_refused _ _ _ f _ _ put.before.number.ensures)) kept.0 kept.1 refl
+    let call = left c.before.before.before.before.before.before.before.before.before.before in
+    let kept = call.refused _ c.in-Refused.is in
+    let f = sym c.in-Refused.is ∙ call.answer in
+    wrote_refused _ _ _ _ _ (refused_unworked _ _ _ f) (put_is _ _ _ _ _ _ c.put_refused.ensures (printed_refused _ _ _ f _ _ c.number.ensures)) kept.0 kept.1 refl
 
-returns-2 : tie.Need-returns-2
+returns-2 : tie.Need-returns-in-Finished
 returns-2 c =
-    let put = c.before.before.before.before.before.before in
-    let told = put.before.before.before.before.before in
-    let d = told.before.before.before.before.before.before in
-    let (wrote, result, counts) = put.put-finished.ensures in
-    let states = told.states.given.1 in
-    wrote_worked _ _ _ _ _ (finished_worked _ _ _ _ _ _ _ (left d) _ _ states) wrote (cleared _ d.analyse-numbers.new.1.1.0 _ result d.analyse-numbers.auto.1.1.0)
-    (finished_cleared _ _ _ _ _ _ _ (left d) _ _ states) counts
+    let (wrote, result, counts) = c.put_finished.ensures in
+    let states = c.in-Finished.is in
+    wrote_worked _ _ _ _ _ (finished_worked _ _ _ _ _ _ _ (left c.before.before.before.before.before.before.before.before.before.before.before.before.before.before.before) _ _ states) wrote (cleared _ c.analyse_numbers.new.res _ result c.analyse_numbers.auto.res)
+    (finished_cleared _ _ _ _ _ _ _ (left c.before.before.before.before.before.before.before.before.before.before.before.before.before.before.before) _ _ states) counts
 
-pub put-numbers-spec : {M : Type 1} → statement M
-put-numbers-spec =
+pub put_numbers_spec : {M : Type 1} → statement M
+put_numbers_spec =
     tie.close
     (tie.spec
     (λ c κs. search rules)

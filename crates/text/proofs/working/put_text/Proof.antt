@@ -11,43 +11,33 @@ use Rattle.text.proofs.working.put_text.Statement.{statement}
 use Rattle.text.proofs.working.put_text.Tie as tie
 
 -- where the function starts, seen from the call that reads
-abbrev start_of : tie.After-read-numbers → tie.Start
+abbrev start_of : tie.After-read_numbers → tie.Start
 start_of c = c.before.before.before.before.before.before.before.before
 
 -- there is room for every text's numbers
-long : (c : tie.After-read-numbers) → 16384 ≤ length (start_of c).args.numbers.now
+long : (c : tie.After-read_numbers) → 16384 ≤ length (start_of c).args.numbers.now
 long c = (start_of c).requires.0
 
-numbers-within : tie.Need-slice-reshare-prefix-put-form
+numbers-within : tie.Need-slice_bounds-put_form-end
 numbers-within c =
-    let n = c.before in
-    let r = n.before.before.before.before in
-    omega (arith, numbers_few _ _ (long r) _ _ r.read-numbers.ensures _ n.n.given.1, r.read-numbers.auto.1.0, long r)
+    omega (arith, numbers_few _ _ (long c.before.before.before) _ _ c.read_numbers.ensures _ c.in-Numbers.is, c.read_numbers.auto.numbers, long c.before.before.before)
 
-numbers-are : tie.Need-slice-aggregate-put-form
+numbers-are : tie.Need-slice_bounds-put_form-end-in-Numbers
 numbers-are c =
-    let n = c.before.before in
-    let r = n.before.before.before.before in
-    numbers_long _ _ (long r) _ _ r.read-numbers.ensures _ n.n.given.1
+    numbers_long _ _ (long c.before.before.before) _ _ c.read_numbers.ensures _ c.in-Numbers.is
 
-returns : tie.Need-returns
+returns : tie.Need-returns-in-Nothing
 returns c =
-    let put = c.before.before in
-    let nothing = put.before.before in
-    let r = nothing.before.before.before.before in
-    wrote_refused _ _ _ _ _ (malformed_unworked _ _ (long r) _ _ r.read-numbers.ensures _ nothing.enum_told.given.1)
-    (put_is _ _ _ _ _ _ put.Put-refused.ensures (text_malformed _ _ (long r) _ _ r.read-numbers.ensures _ nothing.enum_told.given.1)) refl refl refl
+    wrote_refused _ _ _ _ _ (malformed_unworked _ _ (long c.before.before.before.before.before.before.before) _ _ c.read_numbers.ensures _ c.in-Nothing.is)
+    (put_is _ _ _ _ _ _ c.put_refused.ensures (text_malformed _ _ (long c.before.before.before.before.before.before.before) _ _ c.read_numbers.ensures _ c.in-Nothing.is)) refl refl refl
 
-returns-2 : tie.Need-returns-2
+returns-2 : tie.Need-returns-in-Numbers
 returns-2 c =
-    let put = c.before.before.before.before.before.before.before.before in
-    let n = put.before.before.before.before.before.before.before in
-    let r = n.before.before.before.before in
-    wrote_same _ _ _ _ _ _ _ put.put-form.ensures (read_worked _ _ (long r) _ _ r.read-numbers.ensures _ n.n.given.1 _)
-    (text_read _ _ (long r) _ _ r.read-numbers.ensures _ n.n.given.1 _)
+    wrote_same _ _ _ _ _ _ _ c.put_form.ensures (read_worked _ _ (long c.before.before.before.before.before.before.before.before.before.before.before.before.before.before.before.before) _ _ c.read_numbers.ensures _ c.in-Numbers.is _)
+    (text_read _ _ (long c.before.before.before.before.before.before.before.before.before.before.before.before.before.before.before.before) _ _ c.read_numbers.ensures _ c.in-Numbers.is _)
 
-pub put-text-spec : {M : Type 1} → statement M
-put-text-spec =
+pub put_text_spec : {M : Type 1} → statement M
+put_text_spec =
     tie.close
     (tie.spec
     (λ c κs. search rules)

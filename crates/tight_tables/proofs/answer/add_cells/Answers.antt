@@ -14,12 +14,12 @@ loop-j-init c = let a = c.args in (search rules, refl, c.requires.0, c.requires.
 pub overflow_add-res-in-loop-j-2 : goal.overflow_add-res-in-loop-j-2
 overflow_add-res-in-loop-j-2 c =
     let a = c.args in
-    record { fits = more_fits a.to a.row a.width (words_of a.work.now) a.res.now c.loop-j.result c.loop-j.j (omega arith) c.requires.0 c.requires.2 c.loop-j.invariant.4 }
+    record { fits = more_fits a.to a.row a.width (words_of a.work.now) a.res.now c.loop-j.res c.loop-j.j (omega arith) c.requires.0 c.requires.2 c.loop-j.invariant.4 }
 
 pub loop-j-preserved : goal.loop-j-preserved
 loop-j-preserved c =
     let a = c.args in
-    (search rules, search rules, c.requires.0, c.requires.1, more_here a.to a.row a.width (words_of a.work.now) a.res.now c.loop-j.result c.loop-j.j (omega arith) c.requires.0 c.loop-j.invariant.4)
+    (search rules, search rules, c.requires.0, c.requires.1, more_here a.to a.row a.width (words_of a.work.now) a.res.now c.loop-j.res c.loop-j.j (omega arith) c.requires.0 c.loop-j.invariant.4)
 
 pub returns : goal.returns
 returns c =

@@ -28,15 +28,15 @@ mul-row c =
 
 -- the row ends in the slot
 row-end : (s : tie.Start) → let a = s.args in let r = row_for a.o a.from a.live (words_of a.work.now) a.k in r * a.o.cells + a.o.cells ≤ a.o.contents * a.o.cells
-row_end s = let a = s.args in rows_apart a.o.cells (row_for a.o a.from a.live (words_of a.work.now) a.k) a.o.contents s.requires.3
+row-end s = let a = s.args in rows_apart a.o.cells (row_for a.o a.from a.live (words_of a.work.now) a.k) a.o.contents s.requires.3
 
 mul-result-3 : tie.Need-overflow_mul-result-3
 unfolding shared
-mul-result-3 c = omega (arith, row_end c, c.requires.2)
+mul-result-3 c = omega (arith, row-end c.before.before.before.before.before.before.before, c.requires.2)
 
 add-result-4 : tie.Need-overflow_add-result-4
 unfolding shared
-add-result-4 c = omega (arith, row_end c, c.requires.2)
+add-result-4 c = omega (arith, row-end c.before.before.before.before.before.before.before, c.requires.2)
 
 returns : tie.Need-returns
 unfolding shared
