@@ -356,7 +356,7 @@ pub extern "C" fn estimate_nightly(
     graph: &mut u64,
     aside: &mut u64,
 ) -> u64
-    ensures { record { number = result; report = record { accepted = accepted.exit.now; text = text.new; ways = ways.new; limit = limit.new; tracked = tracked.new; accesses = accesses.new; graph = graph.new; aside = aside.new }; rows = rows.new; work = work.new } ≡ nightly_given (after_build numbers.now allowance rows.old work.old) (record { accepted = accepted.entry.now; text = text.old; ways = ways.old; limit = limit.old; tracked = tracked.old; accesses = accesses.old; graph = graph.old; aside = aside.old }) }
+    ensures { record { number = result; report = record { accepted = accepted.new; text = text.new; ways = ways.new; limit = limit.new; tracked = tracked.new; accesses = accesses.new; graph = graph.new; aside = aside.new }; rows = rows.new; work = work.new } ≡ nightly_given (after_build numbers.now allowance rows.old work.old) (record { accepted = accepted.old; text = text.old; ways = ways.old; limit = limit.old; tracked = tracked.old; accesses = accesses.old; graph = graph.old; aside = aside.old }) }
 {
     match build(numbers, allowance, rows, work) {
         Built::Report(found) => {

@@ -24,7 +24,7 @@ pub fn graph_of_text(
     edges: &mut [u32],
     output: &mut [u8],
 ) -> Written
-    ensures { record { answer = result; numbers = numbers.new; rooms = record { runs = runs.exit.now; accesses = accesses.new; edges = edges.new; output = output.new } } ≡ after_listing text.now numbers.old (record { runs = runs.entry.now; accesses = accesses.old; edges = edges.old; output = output.old }) }
+    ensures { record { answer = result; numbers = numbers.new; rooms = record { runs = runs.new; accesses = accesses.new; edges = edges.new; output = output.new } } ≡ after_listing text.now numbers.old (record { runs = runs.old; accesses = accesses.old; edges = edges.old; output = output.old }) }
 {
     if !room_for_graph(
         numbers.len(),
@@ -69,7 +69,7 @@ fn put_listed_text(
     output: &mut [u8],
 ) -> usize
     requires { (16384 ≤ length numbers.old) × (64 ≤ length runs.old) × (4096 ≤ length accesses.old) × (4032 ≤ length edges.old) }
-    ensures { GraphWrote (text_expanded text.now) (listing_of_text text.now) result (record { runs = runs.entry.now; accesses = accesses.old; edges = edges.old; output = output.old }) (record { runs = runs.exit.now; accesses = accesses.new; edges = edges.new; output = output.new }) }
+    ensures { GraphWrote (text_expanded text.now) (listing_of_text text.now) result (record { runs = runs.old; accesses = accesses.old; edges = edges.old; output = output.old }) (record { runs = runs.new; accesses = accesses.new; edges = edges.new; output = output.new }) }
 {
     match read_numbers(text, numbers) {
         Read::Nothing => put_refused(output, 9),
@@ -86,7 +86,7 @@ fn put_listed(
     output: &mut [u8],
 ) -> usize
     requires { (64 ≤ length runs.old) × (4096 ≤ length accesses.old) × (4032 ≤ length edges.old) }
-    ensures { GraphWrote (numbers_expanded numbers.now) (listing_of_numbers numbers.now) result (record { runs = runs.entry.now; accesses = accesses.old; edges = edges.old; output = output.old }) (record { runs = runs.exit.now; accesses = accesses.new; edges = edges.new; output = output.new }) }
+    ensures { GraphWrote (numbers_expanded numbers.now) (listing_of_numbers numbers.now) result (record { runs = runs.old; accesses = accesses.old; edges = edges.old; output = output.old }) (record { runs = runs.new; accesses = accesses.new; edges = edges.new; output = output.new }) }
 {
     let first = end_of(numbers, 2, 1);
     if end_of(numbers, first, 1) != numbers.len() {
@@ -127,7 +127,7 @@ fn put_expanded(
     output: &mut [u8],
 ) -> usize
     requires { (3 ≤ first) × (first ≤ length numbers.now) × (nodes ≤ length runs.old) × (many ≤ length accesses.old) × (links * 2 ≤ length edges.old) }
-    ensures { GraphWrote true (input_lines (get_or numbers.now 0 0) (get_or numbers.now 1 0) (take (min 20 first - 3) (drop 3 numbers.now)) (take nodes runs.entry.now) (take many accesses.old) (take (links * 2) edges.old)) result (record { runs = runs.entry.now; accesses = accesses.old; edges = edges.old; output = output.old }) (record { runs = runs.exit.now; accesses = accesses.new; edges = edges.new; output = output.new }) }
+    ensures { GraphWrote true (input_lines (get_or numbers.now 0 0) (get_or numbers.now 1 0) (take (min 20 first - 3) (drop 3 numbers.now)) (take nodes runs.old) (take many accesses.old) (take (links * 2) edges.old)) result (record { runs = runs.old; accesses = accesses.old; edges = edges.old; output = output.old }) (record { runs = runs.new; accesses = accesses.new; edges = edges.new; output = output.new }) }
 {
     let last = last_shown(first);
     let end = put_graph(

@@ -26,7 +26,7 @@ returns c =
     let a = c.args in
     let ns = a.numbers.now in
     record {
-      c =
+      put =
           put_is _ _ _ _ _ _ c.put_graph-end.ensures
           (ap (λ (k : ℕ). input_lines (get_or ns 0 0) (get_or ns 1 0) (take (k - 3) (drop 3 ns)) (take a.nodes a.runs.now) (take a.many a.accesses.now) (take (a.links * 2) a.edges.now))
           c.last_shown-last.ensures);

@@ -35,7 +35,7 @@ returns-2 c = text_none _ _ _ _ _ c.if-numbers-lt16384.false (sym c.has_room.ens
 put-text-requires : tie.Need-put_text-end-requires
 put-text-requires c κs =
     let a = (start_of c.before.before.before.before.before).args in
-    let (result, work, counts) = rooms_long (wanted_bytes a.wanted) (length a.result.now) (length a.work.now) (length a.counts.now) (length a.output.now) (long c.before.before.before.before.before) in
+    let (result, work, counts) = rooms_long (wanted_bytes a.wanted) (length a.res.now) (length a.work.now) (length a.counts.now) (length a.output.now) (long c.before.before.before.before.before) in
     (c.if-numbers-lt16384.false, result, work, counts)
 
 returns-3 : tie.Need-returns

@@ -15,7 +15,7 @@ start_of c = c.before.before.before.before.before.before.before.before
 
 -- what the graph call left
 left : (c : tie.After-analyse_numbers) → let a = (start_of c).args in
-    Called a.choice a.numbers.now c.analyse_numbers.result a.result.now a.work.now c.analyse_numbers.new.res c.analyse_numbers.new.work
+    Called a.choice a.numbers.now c.analyse_numbers.result a.res.now a.work.now c.analyse_numbers.new.res c.analyse_numbers.new.work
 left c =
     let s = start_of c in
     called s.args.choice s.args.numbers.now s.args.res.now s.args.work.now s.requires.0 s.requires.1 _ _ _ c.analyse_numbers.ensures
