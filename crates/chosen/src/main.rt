@@ -3,6 +3,8 @@
 #![tactic(auto)]
 
 use front::write_front;
+use std::env;
+use std::io::ErrorKind;
 use text::{curve_of_chosen_text, cycles_of_chosen_text};
 use writing::Written;
 
@@ -53,21 +55,39 @@ fn with_output(input: &[u8]) {
 }
 
 // What the program's argument asks for: nothing, or the word `cycles`.
-fn tell(input: &[u8]) {
-    let mut word: [u8; 7] = [0; 7];
-    let n = os::arg(1, &mut word);
-    if os::arg_count() < 2 {
-        write_curve(input);
-    } else if check::same(&word[..n], b"cycles") {
-        with_output(input);
-    } else {
-        io::write_all(2, b"chosen: the only argument is the word cycles\n");
+fn tell(input: &[u8], word: Option<String>) {
+    match word {
+        None => write_curve(input),
+        Some(w) => {
+            if w.as_str() == "cycles" {
+                with_output(input);
+            } else {
+                refuse_word();
+            }
+        }
     }
 }
 
-// One byte more than a text may have is read, so that a longer one is seen to be too long.
-fn main() {
+// Any other argument is refused.
+fn refuse_word() {
+    io::write_all(2, b"chosen: the only argument is the word cycles\n");
+}
+
+// One byte more than a text may have is read, so that a longer one is seen to be too long. An argument that is no text is refused as any other word is.
+fn main(rt: HostRuntime) -> std::io::Result<()> {
     let mut input: [u8; 65537] = [0; 65537];
     let n = io::read_full(0, &mut input);
-    tell(&input[..n]);
+    match env::args(&rt) {
+        Ok(mut words) => {
+            let _program = words.next();
+            tell(&input[..n], words.next());
+        }
+        Err(e) => {
+            if e.kind() != ErrorKind::InvalidData {
+                return Err(e);
+            }
+            refuse_word();
+        }
+    }
+    Ok(())
 }

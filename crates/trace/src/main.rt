@@ -3,6 +3,8 @@
 #![tactic(auto)]
 
 use front::write_front;
+use std::env;
+use std::io::ErrorKind;
 use traces::{accesses_of_trace, damaged_of_trace};
 use writing::Written;
 
@@ -33,21 +35,44 @@ fn tell_damaged(trace: &[u8]) {
 }
 
 // What the program's argument asks for: nothing, or the word `damaged`.
-fn tell(trace: &[u8]) {
-    let mut word: [u8; 8] = [0; 8];
-    let n = os::arg(1, &mut word);
-    if os::arg_count() < 2 {
-        with_output(trace);
-    } else if check::same(&word[..n], b"damaged") {
-        tell_damaged(trace);
-    } else {
-        io::write_all(2, b"trace: the only argument is the word damaged\n");
+fn tell(trace: &[u8], word: Option<String>) {
+    match word {
+        None => with_output(trace),
+        Some(w) => {
+            if w.as_str() == "damaged" {
+                tell_damaged(trace);
+            } else {
+                refuse_word();
+            }
+        }
     }
 }
 
-// One block more than there is room for is read, so that a longer trace is refused and never cut.
-fn main() {
+// Any other argument is refused.
+fn refuse_word() {
+    io::write_all(2, b"trace: the only argument is the word damaged\n");
+}
+
+// One block more than there is room for is read, so that a longer trace is refused and never cut. An argument that is no text is refused as any other word is.
+fn read_and_tell(rt: &HostRuntime, trace: &mut [u8]) -> std::io::Result<()> {
+    let n = io::read_full(0, trace);
+    match env::args(rt) {
+        Ok(mut words) => {
+            let _program = words.next();
+            tell(&trace[..n], words.next());
+        }
+        Err(e) => {
+            if e.kind() != ErrorKind::InvalidData {
+                return Err(e);
+            }
+            refuse_word();
+        }
+    }
+    Ok(())
+}
+
+// The room for the trace has the size that is needed; it is in a function of its own as the room for the text is.
+fn main(rt: HostRuntime) -> std::io::Result<()> {
     let mut trace: [u8; 524800] = [0; 524800];
-    let n = io::read_full(0, &mut trace);
-    tell(&trace[..n]);
+    read_and_tell(&rt, &mut trace)
 }
