@@ -1,5 +1,5 @@
 -- What is asked of the working room before a table in it is worked.
-use Rattle.std.specs.Prelude.{◌≡◌, true, List, ℕ, ◌+◌, ◌-◌, ◌≤◌, ◌<◌, length, take, drop}
+use Rattle.std.specs.Prelude.{◌≡◌, true, List, ℕ, ◌+◌, ◌≤◌, ◌<◌, length, take, drop}
 use Rattle.rules.specs.declared.Cache.{Cache}
 use Rattle.rules.specs.Units.{whole}
 use Rattle.rules.specs.Contents.{among}

@@ -1,11 +1,10 @@
 -- What the loops over a run, over the edges and over the nodes compute.
-use mathlib.Core.Path.{◌≡◌, refl, sym, ap, ap₂, ◌∙◌}
+use mathlib.Core.Path.{◌≡◌, refl, sym, ap, ◌∙◌}
 use mathlib.Core.Bool.{Bool, true, false, cond}
-use mathlib.Core.List.{List, [], ◌∷◌, ◌++◌, append-nil}
+use mathlib.Core.List.{List, [], ◌∷◌, ◌++◌}
 use Prim.Native.Nat.{ℕ, zero, suc, ◌+◌, ◌-◌, ◌*◌, ◌/◌, ◌≤◌, ◌<◌}
 use native.Mathlib.Nat.{le_refl}
 use native.Mathlib.Omega.{arith}
-use borrow.Author.Tests.{eq-eqb, ne_eqb}
 use lib.Bits.{bit_or, or_zero_r, or_comm}
 use lib.Dec.{eqb}
 use lib.ListN.{length, get_or, set, take, drop, replicate, length-drop, drop_of_length-le}
@@ -16,9 +15,9 @@ use Rattle.rules.specs.declared.Refusal.{Refusal}
 use Rattle.rules.specs.declared.Verdict.TheVariants.{Accepted, Refused}
 use Rattle.rules.specs.declared.Last.TheVariants.{Unknown as unknown}
 use Rattle.rules.specs.Contents.{find, with, target_of}
-use Rattle.rules.specs.Input.{Input, nodes, run_of, offset, Edge, edges_of}
+use Rattle.rules.specs.Input.{Input, nodes, run_of, offset, edges_of}
 use Rattle.rules.specs.Refusals.{verdict}
-use Rattle.rules.specs.Shape.{Listed, Aimed}
+use Rattle.rules.specs.Shape.{Aimed}
 use Rattle.rules.proofs.Sets.{aimed}
 use Rattle.rules.proofs.Graph.{offset_next}
 use Rattle.graph_check.proofs.Checks.{edges_next, edges_end}

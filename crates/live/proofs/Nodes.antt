@@ -1,21 +1,21 @@
 -- What the 64 numbers say of an accepted graph: at place v what is live at the start of node v, and by them and the edges what is live behind it. Nothing else of what
 -- comes in is looked at. No other proof of this crate uses this: it is for the callers.
-use mathlib.Core.Path.{◌≡◌, refl, sym, ap, ap₂, ◌∙◌}
-use mathlib.Core.Bool.{Bool, true, false, cond}
+use mathlib.Core.Path.{◌≡◌, refl, ap, ap₂, ◌∙◌}
+use mathlib.Core.Bool.{cond}
 use mathlib.Core.List.{List, [], ◌∷◌, ◌++◌}
-use Prim.Native.Nat.{ℕ, zero, suc, ◌+◌, ◌-◌, ◌≤◌, ◌<◌}
+use Prim.Native.Nat.{ℕ, zero, suc, ◌+◌, ◌-◌, ◌<◌}
 use native.Mathlib.Nat.{le_refl}
 use native.Mathlib.Omega.{arith}
 use lib.Bits.{bit_or}
 use lib.Dec.{eqb}
-use lib.ListN.{length, get_or, drop, replicate, get_or-append}
+use lib.ListN.{length, get_or, drop, replicate}
 use lib.Seq.{drop-append-le}
 use Rattle.rules.specs.declared.Cache.{Cache}
 use Rattle.rules.specs.declared.Verdict.TheVariants.{Accepted}
 use Rattle.rules.specs.Input.{Input, input_in, nodes, run_of, Edge, edges_of}
 use Rattle.rules.specs.Refusals.{verdict}
 use Rattle.tight_rules.specs.Run.{living}
-use Rattle.tight_rules.specs.Live.{live_at, after_node, lives_of, live_after, live_before}
+use Rattle.tight_rules.specs.Live.{after_node, lives_of, live_after, live_before}
 use Rattle.tight_rules.proofs.Live.{lives_at}
 use Rattle.live.specs.Starts.{graph_of, starts_of}
 use Rattle.live.proofs.Lives.{length_lives}

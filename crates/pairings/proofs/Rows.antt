@@ -18,7 +18,7 @@ use Rattle.rules.specs.Table.{listing, units_of, state_at}
 use Rattle.rules.specs.Entries.{no_rows, rows_of, rows_told, few_rows, in_form}
 use Rattle.words.specs.Tables.{table_of}
 use Rattle.words.proofs.Tables.{length_table_of, state_next, state_end}
-use Rattle.pairings.specs.Rows.{row_at, side_of, used_by}
+use Rattle.pairings.specs.Rows.{row_at}
 
 -- ---- one row
 

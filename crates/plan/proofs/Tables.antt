@@ -1,20 +1,19 @@
 -- Tables whose contents are renamed. A table that rises, each of whose states has units, is known by what it is worth to every weight; so contents may be renamed in one step or in two, and the units of
 -- contents are those of all that are renamed to it. How many contents a table has is how many masks have units.
 use mathlib.Core.Path.{◌≡◌, refl, sym, ap, ap₂, ◌∙◌, subst}
-use mathlib.Core.Logic.{◌≢◌, ◌⊎◌, inl, inr}
-use mathlib.Core.Bool.{Bool, true, false, cond, ◌&&◌, true≢false}
+use mathlib.Core.Logic.{◌≢◌}
+use mathlib.Core.Bool.{Bool, true, false, cond}
 use mathlib.Core.List.{List, [], ◌∷◌, map}
-use Prim.Native.Nat.{ℕ, zero, suc, ◌+◌, ◌*◌, ◌≤◌, ◌<◌}
+use Prim.Native.Nat.{ℕ, ◌+◌, ◌*◌, ◌≤◌, ◌<◌}
 use native.Mathlib.Nat.{le_refl, le_trans, le_of_eq, zero-add}
 use native.Mathlib.Omega.{arith}
 use lib.Dec.{eqb, ltb}
 use lib.ListN.{length}
 use borrow.Author.Tests.{eqb-true, eqb-false, eq-eqb, ne_eqb, lt-ltb, le-ltb}
-use Rattle.basics.specs.Sums.{sum_over}
 use Rattle.basics.proofs.Bools.{same_test}
 use Rattle.basics.proofs.Sums.{sum_map, sum_on, on_eq, on_none, on_point}
 use Rattle.rules.specs.declared.State.{State}
-use Rattle.rules.specs.Units.{whole, more}
+use Rattle.rules.specs.Units.{whole}
 use Rattle.rules.specs.Ordered.{Order, before, same, after, by_number, then_by, by_two}
 use Rattle.rules.specs.AnyTable.{total as total_of}
 use Rattle.rules.specs.Table.{state, units_of, order, add, total}
@@ -22,9 +21,8 @@ use Rattle.rules.specs.Shape.{Every}
 use Rattle.rules.proofs.Lists.{every_map, every_weaker}
 use Rattle.rules.proofs.Splitting.{more_least}
 use Rattle.rules.proofs.Ordered.{turned, state_orders, order_same, number_cases}
-use Rattle.rules.proofs.Table.{Rising, Weight, weight_of, worth_of, worth, one, worth_total, worth_add, total_add, rising_add, every_add}
+use Rattle.rules.proofs.Table.{Rising, Weight, weight_of, worth_of, worth, one, worth_add, total_add, rising_add, every_add}
 use Rattle.tight_rules.specs.Rows.{contents, listed, units_in, move}
-use Rattle.tight_rules.proofs.Few.{move_every}
 use Rattle.plan.specs.Plan.{relabelled}
 
 -- each state has units

@@ -34,7 +34,7 @@ use Rattle.promises.proofs.Value.{value, Rises, ahead_rises, value_vaguer, targe
 use Rattle.promises.proofs.Accesses.{access_low}
 use Rattle.promises.proofs.Folds.{kept_fold}
 use Rattle.promises.proofs.Joins.{pairing_above}
-use Rattle.promises.proofs.AnyPath.{along, Carries, known, first_start, first_known, path_covers as path_covers_any}
+use Rattle.promises.proofs.AnyPath.{along, Carries, first_start, first_known, path_covers as path_covers_any}
 
 -- the value along accesses is the weight before them
 value_along : (W : Weight) (N : ℕ) (p : List Target) → along (λ x f C m F. ahead N x f C m F) p W ≡ value W N p

@@ -1,17 +1,15 @@
 -- A row and the states that it stands for: what the loops over its cells compute is what is asked of those states.
 use mathlib.Core.Path.{◌≡◌, refl, sym, ap, ◌∙◌}
-use mathlib.Core.Logic.{◌≢◌}
-use mathlib.Core.Bool.{Bool, true, false, cond, ◌&&◌}
+use mathlib.Core.Bool.{Bool, true, false, cond}
 use mathlib.Core.List.{List, [], ◌∷◌}
 use Prim.Native.Nat.{ℕ, zero, suc, ◌+◌, ◌-◌, ◌≤◌, ◌<◌, max}
 use native.Mathlib.Nat.{le_refl, max-zero}
 use native.Mathlib.Omega.{arith}
-use borrow.Author.Tests.{eq-eqb, ne_eqb, eqb-true, eqb-false, lt-ltb, le-ltb, ltb-true, ltb-false}
+use borrow.Author.Tests.{eq-eqb, ne_eqb, eqb-true, eqb-false, ltb-true, ltb-false}
 use lib.Dec.{eqb, leb, ltb}
-use lib.ListN.{length, get_or, drop, drop_of_length-le, length-drop}
+use lib.ListN.{length, get_or, drop, drop_of_length-le}
 use lib.Seq.{drop-cons, drop-length}
 use Rattle.basics.specs.Sums.{sum_over}
-use Rattle.basics.proofs.Lists.{list_next, list_end}
 use Rattle.rules.specs.declared.State.{State}
 use Rattle.rules.specs.Units.{whole}
 use Rattle.rules.specs.AnyTable.{total as total_of}
@@ -20,7 +18,7 @@ use Rattle.rules.specs.Table.{total}
 use Rattle.rules.specs.Questions.{largest, above, smallest_budget}
 use Rattle.rules.specs.Within.{sum_above, is_within}
 use Rattle.rules.proofs.Questions.{above_falls, smallest_is}
-use Rattle.row_questions.specs.Row.{states_from, states_of, is_row}
+use Rattle.row_questions.specs.Row.{states_from, states_of}
 
 -- all units of a row
 abbrev pub sum : List ℕ → ℕ

@@ -1,7 +1,7 @@
 -- The best case's table: its order is one, and what is in the same place is equal in all but units; each state keeps its shape (contents with room in their
 -- sets, open ones with the mask 0, hits and misses together no more than the accesses); all units of an access go on, and what the states that follow a miss are
 -- worth. So its tables are tables, at every node, and the finished one is accepted as a table.
-use mathlib.Core.Path.{◌≡◌, refl, sym, ap, ap₂, ◌∙◌, subst}
+use mathlib.Core.Path.{◌≡◌, refl, sym, ap₂, ◌∙◌, subst}
 use mathlib.Core.Logic.{◌≢◌}
 use mathlib.Core.Bool.{Bool, true, false, cond, ◌&&◌, true≢false}
 use mathlib.Core.List.{List, [], ◌∷◌, ◌++◌, map, flat_map}
@@ -19,7 +19,7 @@ use Rattle.basics.proofs.Sums.{sum_append, sum_map, sum_times}
 use Rattle.rules.specs.Units.{whole}
 use Rattle.rules.specs.Contents.{places, Target, bit, has, with, without, shared, held, size}
 use Rattle.rules.specs.Filling.{filled_at, evenly, fill_one}
-use Rattle.rules.specs.Ordered.{Order, before, same, after, by_number, then_by, by_two, is_before}
+use Rattle.rules.specs.Ordered.{same, by_number}
 use Rattle.rules.specs.AnyTable.{total, present, access}
 use Rattle.rules.specs.Step.{at_risk}
 use Rattle.rules.specs.Best.{BestState, exact_state, open_state, misses_of, hits_of, units_of, order, hit, missed, miss, successors, folds, same_contents, joins, listing, kind}
@@ -28,7 +28,7 @@ use Rattle.rules.proofs.Lists.{every_append, every_map, every_weaker}
 use Rattle.rules.proofs.Contents.{every_held, with_lt, without_lt, sub_shared_left}
 use Rattle.rules.proofs.Filling.{no_more, evenly_at, evenly_most}
 use Rattle.rules.proofs.Sets.{risk_set, room_zero, room_risk, room_joined, room_moved}
-use Rattle.rules.proofs.Ordered.{turned, Orders, by_number_lem, then_by_lem, then_both, said_same, turned_before}
+use Rattle.rules.proofs.Ordered.{Orders, by_number_lem, then_by_lem, then_both, said_same, turned_before}
 use Rattle.rules.proofs.Listings.{Lawful, Weight, worth_of, worth, length_present, length_present_append, length_follow, length_add}
 use Rattle.rules.proofs.Step.{over_ways, over_ways_each}
 use Rattle.rules.proofs.AnyTable.{Keeps, Starts, Follows}

@@ -6,7 +6,7 @@ use mathlib.Core.List.{List, [], ◌∷◌, ◌++◌}
 use Prim.Native.Nat.{ℕ, zero, suc, ◌+◌, ◌*◌, ◌≤◌, ◌<◌}
 use native.Mathlib.Omega.{arith}
 use lib.Dec.{eqb, leb}
-use lib.ListN.{length, get_or, take, drop}
+use lib.ListN.{length, get_or, take}
 use borrow.Author.Tests.{eqb-true, leb-true}
 use Rattle.basics.proofs.Bools.{and_left, and_right}
 use Rattle.rules.specs.declared.Refusal.{Refusal}

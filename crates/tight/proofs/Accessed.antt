@@ -40,7 +40,6 @@ use Rattle.tight_rows.specs.Grid.{Grid, table_of, rows_of}
 use Rattle.tight_rows.specs.Numbers.{some as some_of, rank_of}
 use Rattle.tight_ends.specs.Stage.{Groups, Placed, Staged}
 use Rattle.tight_rows.proofs.Cells.{Test, passes, units_where, is_cell, cell, where_alike, where_moved, move_rising, move_some, units_in_where}
-use Rattle.tight_ends.proofs.Columns.{column}
 use Rattle.tight_rows.proofs.Grids.{every_cell}
 use Rattle.tight.proofs.Access.{landing, if_zero, same_number, after_full, grid_after}
 use Rattle.tight_ends.proofs.Settled.{every_both}

@@ -1,13 +1,13 @@
 -- The slot after the row ends: rows that were kept (RowsKept) make the grid that the settled table stands for (Settled), and a neat one.
 use mathlib.Core.Path.{◌≡◌, refl, sym, ap, ◌∙◌}
 use mathlib.Core.List.{List}
-use Prim.Native.Nat.{ℕ, ◌+◌, ◌-◌, ◌≤◌, ◌<◌}
+use Prim.Native.Nat.{ℕ, ◌+◌, ◌≤◌, ◌<◌}
 use native.Mathlib.Omega.{arith}
 use borrow.Author.Tests.{le-ltb}
 use Rattle.basics.proofs.Sums.{sum_to, sum_eq}
 use Rattle.tight_rows.specs.Room.{Words, words_of, count_at, base_at, width_at, mask_at, units_at, cell_at}
 use Rattle.tight_rows.specs.Grid.{Grid, grid_of, Neat}
-use Rattle.tight_ends.specs.Settling.{gathered, gathered_row, Kept}
+use Rattle.tight_ends.specs.Settling.{gathered_row, Kept}
 use Rattle.tight_ends.specs.Keeping.{row_in, KeptTo}
 use Rattle.tight_ends.proofs.RowsKept.{gathered_row_lem}
 

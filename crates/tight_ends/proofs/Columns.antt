@@ -1,12 +1,11 @@
 -- A table by columns: the states with so many misses. What passes a test below a miss count is added up column by column.
 use mathlib.Core.Path.{◌≡◌, refl, sym, ap, ap₂, ◌∙◌}
-use mathlib.Core.Bool.{Bool, true, false, cond, ◌&&◌, not}
+use mathlib.Core.Bool.{Bool, true, false, cond, ◌&&◌}
 use mathlib.Core.List.{List, [], ◌∷◌}
 use Prim.Native.Nat.{ℕ, zero, suc, ◌+◌, ◌≤◌, ◌<◌}
 use native.Mathlib.Omega.{arith}
 use lib.Dec.{eqb, ltb}
 use borrow.Author.Tests.{eqb-true, eqb-false, ltb-true, ltb-false, lt-ltb, le-ltb}
-use Rattle.basics.proofs.Bools.{both}
 use Rattle.basics.proofs.Sums.{sum_to}
 use Rattle.rules.specs.declared.Filled.{Filled}
 use Rattle.rules.specs.declared.State.{State}

@@ -3,15 +3,15 @@ use mathlib.Core.Path.{◌≡◌, refl, ap, ◌∙◌}
 use mathlib.Core.Logic.{◌⊎◌, inl, inr, ⊎_elim}
 use mathlib.Core.Bool.{Bool, true, false, cond}
 use mathlib.Core.List.{List}
-use Prim.Native.Nat.{ℕ, zero, suc, ◌+◌, ◌-◌, ◌^◌, ◌≤◌, ◌<◌}
+use Prim.Native.Nat.{ℕ, zero, suc, ◌+◌, ◌-◌, ◌≤◌, ◌<◌}
 use native.Mathlib.Omega.{arith}
-use lib.Dec.{eqb, ltb}
+use lib.Dec.{ltb}
 use lib.ListN.{length, set, length-set}
 use lib.Seq.{get_or-set_same, get_or-set_other}
 use borrow.Author.Tests.{ne_eqb, ltb-true, ltb-false}
 use Rattle.basics.proofs.Sums.{sum_to}
 use Rattle.tight_rows.specs.Room.{words_of, Leaves}
-use Rattle.tight_rows.specs.Rows.{within, replaced}
+use Rattle.tight_rows.specs.Rows.{replaced}
 use Rattle.tight_ends.specs.Settling.{gathered, gathered_row, Gathering}
 use Rattle.tight_rows.proofs.Writing.{is_within_lem, not_within, within_cases, Written, as_before, one_more_lem}
 

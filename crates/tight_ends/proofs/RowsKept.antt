@@ -11,7 +11,7 @@ use lib.ListN.{length, set, length-set}
 use lib.Seq.{get_or-set_same, get_or-set_other}
 use borrow.Author.Tests.{eqb-true, eqb-false, eq-eqb, ne_eqb, lt-ltb, ltb-true}
 use Rattle.basics.proofs.Sums.{sum_to, sum_eq}
-use Rattle.tight_rows.specs.Room.{Words, words_of, Leaves, mask_at, units_at, cell_at, row_at, slot_words}
+use Rattle.tight_rows.specs.Room.{words_of, Leaves, mask_at, units_at, cell_at, row_at, slot_words}
 use Rattle.tight_rows.specs.Rows.{replaced}
 use Rattle.tight_ends.specs.Settling.{gathered, gathered_row, Gathering}
 use Rattle.tight_ends.specs.Keeping.{row_in, staying_in, Keeping, Beside, RowKept, KeepingAll, KeptTo}

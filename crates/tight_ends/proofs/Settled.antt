@@ -23,13 +23,13 @@ use Rattle.rules.proofs.Lists.{every_weaker, every_map}
 use Rattle.rules.proofs.Splitting.{more_more}
 use Rattle.rules.proofs.Table.{every_add}
 use Rattle.tight_rules.specs.Rows.{Rows, move, moved, even, evened, filled_for}
-use Rattle.tight_rules.specs.Ends.{up_to, cut, raise, raised, below, highest, lowest, ends}
+use Rattle.tight_rules.specs.Ends.{up_to, cut, raise, raised, below, lowest, ends}
 use Rattle.tight_rules.specs.Run.{settled}
 use Rattle.tight_rows.specs.Grid.{Grid, table_of}
 use Rattle.tight_ends.specs.Stage.{Groups, Placed, Staged}
 use Rattle.tight_ends.specs.Ending.{Topped, Bottomed}
 use Rattle.tight_ends.specs.Settling.{both, gathered, settled_filled, unlike, unlike_to, staying, Comes, Stays, Kept}
-use Rattle.tight_rows.proofs.Cells.{Test, passes, units_where, is_cell, cell, where_alike, where_moved, where_most, move_total, move_rising, move_some, total_where, Known, same_cells}
+use Rattle.tight_rows.proofs.Cells.{Test, units_where, is_cell, cell, where_alike, where_moved, where_most, move_total, move_rising, move_some, total_where, Known, same_cells}
 use Rattle.tight_rows.proofs.Grids.{sum_none, sum_one, mask_apart, grid_cell, grid_no_cell, grid_known, filled_of}
 use Rattle.tight_ends.proofs.Columns.{under, column, columns, all_columns, where_none}
 use Rattle.tight_ends.proofs.Ending.{where_up_to, total_sum, highest_is, above_top, lowest_is, below_lowest}

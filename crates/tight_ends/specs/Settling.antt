@@ -5,7 +5,7 @@ use Rattle.basics.proofs.Sums.{sum_to}
 use Rattle.rules.specs.declared.Filled.{Filled}
 use Rattle.rules.specs.Filling.{fullest, same_filled}
 use Rattle.rules.specs.Table.{no_state}
-use Rattle.tight_rows.specs.Room.{Words, words_of}
+use Rattle.tight_rows.specs.Room.{words_of}
 use Rattle.tight_rows.specs.Grid.{Grid}
 use Rattle.tight_ends.specs.Stage.{Groups}
 

@@ -4,7 +4,7 @@ use mathlib.Core.Path.{◌≡◌, refl, sym, ap, ap₂, ◌∙◌}
 use mathlib.Core.Bool.{Bool, true, false, cond, ◌||◌, ◌&&◌, true≢false}
 use mathlib.Core.Logic.{◌≢◌}
 use mathlib.Core.List.{List, [], ◌∷◌, ◌++◌, map, flat_map, append-nil}
-use Prim.Native.Nat.{ℕ, zero, suc, ◌+◌, ◌-◌, ◌≤◌, ◌<◌, min, max}
+use Prim.Native.Nat.{ℕ, zero, suc, ◌+◌, ◌-◌, ◌≤◌, min, max}
 use native.Mathlib.Omega.{arith}
 use borrow.Author.Tests.{eqb-true, eq-eqb, ne_eqb, leb-true, leb-false, le-leb, lt-leb, ltb-true, ltb-false, le-ltb}
 use lib.Dec.{eqb, leb, ltb}
@@ -25,7 +25,7 @@ use Rattle.tight_rules.specs.Rows.{contents}
 use Rattle.tight_rules.specs.Join.{Two, spend, pair_up, row_of, rows_of, in_turn, pairing}
 use Rattle.tight_rows.proofs.Cells.{Test, units_where, where_add}
 use Rattle.tight_pairs.specs.Joining.{taken, amount, left_of, right_of, Heights, sharing, turns, amount_of, lowered, joined_to}
-use Rattle.tight_pairs.proofs.Quantiles.{units_by, spend_units, counted, counted_append, counted_same, left_append, right_append, left_away, right_away, meant, meant_same, meant_most, all, Once, First, against, grid, grid_left, grid_away, grid_left_over, grid_right, either, grid_counts}
+use Rattle.tight_pairs.proofs.Quantiles.{units_by, spend_units, counted, counted_append, counted_same, left_away, right_away, meant, meant_same, meant_most, all, Once, First, against, grid, grid_left, grid_away, grid_left_over, grid_right, either, grid_counts}
 
 -- ---- the pairs that the definition makes, by units alone
 

@@ -14,9 +14,8 @@ use Rattle.basics.specs.Sums.{sum_over}
 use Rattle.rules.specs.declared.State.{State}
 use Rattle.rules.specs.Shape.{Every}
 use Rattle.rules.proofs.Lists.{every_append}
-use Rattle.rules.specs.AnyTable.{Match}
 use Rattle.rules.specs.Table.{units_of, state_at}
-use Rattle.tight_rules.specs.Join.{Two, spend, pair_up}
+use Rattle.tight_rules.specs.Join.{Two, spend}
 use Rattle.tight_pairs.specs.Joining.{taken, amount, left_of, right_of}
 
 -- ---- the units that are left, by place

@@ -2,9 +2,7 @@
 -- as many units as both have left, from the top of both rows.
 use Rattle.std.specs.Prelude.{cond, ℕ, zero, suc, ◌+◌, ◌-◌, min, max, eqb}
 use mathlib.Core.List.{List, [], ◌∷◌, ◌++◌, flat_map}
-use Rattle.rules.specs.declared.State.{State}
 use Rattle.rules.specs.Contents.{shared, size}
-use Rattle.tight_rules.specs.Rows.{contents}
 use Rattle.tight_rules.specs.Join.{Two}
 
 -- ---- units by place

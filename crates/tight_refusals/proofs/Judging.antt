@@ -10,7 +10,6 @@ use Rattle.basics.proofs.Bools.{not_left, not_right}
 use Rattle.rules.specs.declared.Cache.{Cache}
 use Rattle.rules.specs.declared.Refusal.{Refusal}
 use Rattle.rules.specs.declared.Refusal.TheVariants.{Limit, Room}
-use Rattle.rules.specs.declared.Verdict.{Verdict}
 use Rattle.rules.specs.declared.Verdict.TheVariants.{Accepted, Refused}
 use Rattle.rules.specs.Answers.{Reason, when, first, verdict_says}
 use Rattle.rules.specs.Input.{input_in}

@@ -6,7 +6,7 @@ use Rattle.basics.specs.Sums.{sum_over}
 use Rattle.basics.proofs.Sums.{sum_append}
 use Rattle.rules.specs.Contents.{bit, shared, held, held_below}
 use Rattle.rules.proofs.Contents.{sixteen_places}
-use Rattle.tight_rows.specs.Room.{Words, words_of, Leaves}
+use Rattle.tight_rows.specs.Room.{words_of, Leaves}
 use Rattle.tight_rows.specs.Rows.{raised, if}
 use Rattle.tight_rows.proofs.Writing.{is_within_lem, not_within, within_cases}
 

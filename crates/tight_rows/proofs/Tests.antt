@@ -1,5 +1,5 @@
 -- Tests of places say what they are to say, without sums that could grow beyond a word; and what a function does that tests.
-use Rattle.std.proofs.Common.{◌≡◌, ℕ, ◌+◌, ◌-◌, ◌*◌, ◌/◌, ◌<◌, ◌≤◌, leb, le-div_iff_mul-le, arith, le-leb, leb-true}
+use Rattle.std.proofs.Common.{◌≡◌, ℕ, ◌+◌, ◌-◌, ◌*◌, ◌/◌, ◌≤◌, leb, le-div_iff_mul-le, arith, le-leb, leb-true}
 use Rattle.basics.proofs.Bools.{same_test}
 use Rattle.tight_rows.specs.Room.{Where, slot_words}
 

@@ -1,6 +1,6 @@
 -- Words that there are, and sums of them: words past the end are 0, so that a sum over those that there are is the whole sum; and a sum modulo 2^64 is the sum where this is a
 -- word.
-use Rattle.std.proofs.Common.{◌≡◌, ℕ, zero, suc, ◌+◌, ◌-◌, ◌%◌, ◌^◌, ◌<◌, ◌≤◌, ◌⊎◌, List, [], ◌∷◌, length, set, sym, refl, ap, ◌∙◌, inl, inr, le_of_suc-le-suc, not-suc-le-zero, mod-eq_of_lt, eq-or-lt_of_le, arith}
+use Rattle.std.proofs.Common.{◌≡◌, ℕ, zero, suc, ◌+◌, ◌%◌, ◌^◌, ◌<◌, ◌≤◌, ◌⊎◌, List, [], ◌∷◌, length, set, refl, ap, ◌∙◌, inl, inr, le_of_suc-le-suc, not-suc-le-zero, mod-eq_of_lt, eq-or-lt_of_le, arith}
 use native.Mathlib.Nat.{mod-add-mod}
 use Rattle.basics.proofs.Sums.{sum_to}
 use Rattle.tight_rows.specs.Room.{words_of}

@@ -1,23 +1,21 @@
 -- What the curve says, and what is known where an input is accepted. Above a budget the curve has the last table's units there and, below the accesses of the longest
 -- path, the lost ones; a path has no more misses than that, so the lost units are counted wherever a path can be above the budget.
-use mathlib.Core.Path.{◌≡◌, refl, sym, ap, ◌∙◌}
-use mathlib.Core.Bool.{Bool, true, false, cond, true≢false, ◌||◌}
-use mathlib.Core.List.{List, [], ◌∷◌}
-use Prim.Native.Nat.{ℕ, ◌+◌, ◌*◌, ◌^◌, ◌≤◌, ◌<◌}
+use mathlib.Core.Path.{◌≡◌, refl, ◌∙◌}
+use mathlib.Core.Bool.{Bool, true, false, cond}
+use mathlib.Core.List.{List}
+use Prim.Native.Nat.{ℕ, ◌+◌, ◌*◌, ◌≤◌, ◌<◌}
 use native.Mathlib.Nat.{le_refl, le_trans, le_of_eq, max-le}
 use native.Mathlib.Omega.{arith}
 use lib.Dec.{ltb}
 use lib.ListN.{length}
 use borrow.Author.Tests.{ltb-true, ltb-false}
-use Rattle.basics.specs.Sums.{sum_over}
 use Rattle.basics.proofs.Sums.{sum_each}
-use Rattle.basics.proofs.Bools.{not_left, not_right}
 use Rattle.machine.specs.Cache.{Cache, Revision, run as run_machine}
 use Rattle.machine.specs.Draws.{draws, count_from}
 use Rattle.machine.proofs.Draws.{count_le}
 use Rattle.machine.proofs.Ways.{run_misses}
 use Rattle.rules.specs.Units.{whole}
-use Rattle.rules.specs.Answers.{first, verdict_says}
+use Rattle.rules.specs.Answers.{verdict_says}
 use Rattle.rules.specs.AnyTable.{total as total_of}
 use Rattle.rules.specs.Counts.{above as above_of, largest as largest_of}
 use Rattle.rules.specs.Questions.{above, largest}
@@ -29,10 +27,10 @@ use Rattle.rules.proofs.Longest.{shaped_largest}
 use Rattle.promises.specs.Ends.{over}
 use Rattle.promises.proofs.Weights.{one_where, over_is, over_rises, one_most, worth_above}
 use Rattle.tight_rules.specs.Asked.{Asked, graph_of}
-use Rattle.tight_rules.specs.Rows.{Rows, meaning}
+use Rattle.tight_rules.specs.Rows.{meaning}
 use Rattle.tight_rules.specs.Graph.{finished, curve}
 use Rattle.tight_rules.specs.Refusals.{before_rooms, reasons, verdict}
-use Rattle.tight_rules.proofs.Moves.{Fit, worth_of_all, Good}
+use Rattle.tight_rules.proofs.Moves.{worth_of_all, Good}
 use Rattle.tight_rules.proofs.Graphs.{finished_fit}
 
 -- an accepted input's graph is one that document 01's call accepts, with the limit and the rooms that `graph_of` gives it

@@ -4,7 +4,7 @@
 use mathlib.Core.Path.{◌≡◌, refl, sym, ap, ◌∙◌}
 use mathlib.Core.Logic.{◌⊎◌, inl, inr}
 use mathlib.Core.Bool.{Bool, true, false, cond, true≢false}
-use mathlib.Core.List.{List, [], ◌∷◌}
+use mathlib.Core.List.{List}
 use Prim.Native.Nat.{ℕ, suc, ◌*◌, ◌≤◌, ◌<◌}
 use native.Mathlib.Nat.{le_refl, le_trans, mul-le-mul_left, lt_of_le_of_lt}
 use native.Mathlib.Omega.{arith}
@@ -13,7 +13,7 @@ use Rattle.rules.specs.declared.Place.TheVariants.{At as at, Untracked as untrac
 use Rattle.rules.specs.declared.Target.{Target}
 use Rattle.rules.specs.declared.Filled.{Filled}
 use Rattle.rules.specs.Contents.{places, bit, has, hits, with, without, shared, size, of_set}
-use Rattle.rules.specs.Filling.{filled_at, fill_one}
+use Rattle.rules.specs.Filling.{fill_one}
 use Rattle.rules.specs.Step.{at_risk}
 use Rattle.rules.specs.Shape.{Aimed, Room}
 use Rattle.rules.proofs.Contents.{Sub, size_sub, size_without, with_cases, with_keeps, with_new, without_keeps, without_gone, sub_without, sub_into_without, sub_shared_left, sub_shared_right}

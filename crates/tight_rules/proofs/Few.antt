@@ -4,15 +4,14 @@ use mathlib.Core.Path.{◌≡◌, refl, sym, ap, ◌∙◌}
 use mathlib.Core.Logic.{◌≢◌, ◌⊎◌, inl, inr, ⊎_elim}
 use mathlib.Core.Bool.{Bool, true, false, cond, ◌&&◌, not, true≢false}
 use mathlib.Core.List.{List, [], ◌∷◌, map}
-use Prim.Native.Nat.{ℕ, zero, suc, ◌+◌, ◌-◌, ◌*◌, ◌/◌, ◌%◌, ◌^◌, ◌≤◌, ◌<◌, zero-le}
+use Prim.Native.Nat.{ℕ, zero, suc, ◌+◌, ◌-◌, ◌/◌, ◌%◌, ◌^◌, ◌≤◌, ◌<◌, zero-le}
 use native.Mathlib.Nat.{le_refl, le_trans, eq-or-lt_of_le, le_of_suc-le-suc, not-suc-le-zero}
 use native.Mathlib.Omega.{arith}
 use lib.Dec.{eqb, ltb}
 use lib.ListN.{length}
 use lib.Pow.{pow_pos}
-use borrow.Author.Tests.{eqb-true, eqb-false, eq-eqb, ltb-true, ltb-false, lt-ltb}
-use Rattle.basics.specs.Sums.{sum_over}
-use Rattle.basics.proofs.Bools.{and_left, and_right, three, same_test}
+use borrow.Author.Tests.{eqb-true, eqb-false, eq-eqb, ltb-false, lt-ltb}
+use Rattle.basics.proofs.Bools.{and_left, three, same_test}
 use Rattle.basics.proofs.Sums.{part_most}
 use Rattle.rules.specs.declared.Place.{Place}
 use Rattle.rules.specs.declared.Place.TheVariants.{At as at, Untracked as untracked}
@@ -20,13 +19,12 @@ use Rattle.rules.specs.declared.State.{State}
 use Rattle.rules.specs.AnyTable.{total as total_of}
 use Rattle.rules.specs.Contents.{places, among, bit, without}
 use Rattle.rules.specs.Table.{units_of, total, Work}
-use Rattle.rules.specs.Units.{whole}
 use Rattle.rules.specs.Shape.{Every, Shaped}
 use Rattle.rules.proofs.Bits.{bit_low, bit_rest, bit_zero, bits_same}
 use Rattle.rules.proofs.Lists.{every_map, every_weaker}
 use Rattle.rules.proofs.Contents.{Sub, without_gone, sixteen_places}
 use Rattle.rules.proofs.Table.{every_add}
-use Rattle.tight_rules.specs.Rows.{Rows, contents, listed, units_in, move, moved}
+use Rattle.tight_rules.specs.Rows.{contents, listed, units_in, move, moved}
 use Rattle.tight_rules.specs.Reduction.{is_at, lowered, lands, relabel, Reducing, emptied, crowded, light, level, levels, reduced}
 use Rattle.tight_rules.proofs.Moves.{Fit, Good, sure_moved, relabel_weakens}
 use Rattle.tight_rules.proofs.Parts.{Part, lowered_part, lands_part, level_keeps, reduced_keeps}

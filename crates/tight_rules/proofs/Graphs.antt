@@ -1,11 +1,11 @@
 -- A graph, along a path: each node's table is worth no less than its predecessors' are along its run, whichever edges the path takes, nor where less is known of the last
 -- block. A table's misses are at most the accesses of the longest path to its node.
-use mathlib.Core.Path.{◌≡◌, refl, sym, ap, ◌∙◌, subst}
+use mathlib.Core.Path.{◌≡◌, refl, sym, ap, ◌∙◌}
 use mathlib.Core.Logic.{◌⊎◌, inl, inr}
 use mathlib.Core.Bool.{true, true≢false}
 use mathlib.Core.List.{List, [], ◌∷◌, ◌++◌}
 use Prim.Native.Nat.{ℕ, zero, suc, ◌+◌, ◌-◌, ◌*◌, ◌^◌, ◌≤◌, ◌<◌, zero-le}
-use native.Mathlib.Nat.{le_refl, le_trans, mul-le-mul_left, mul-le-mul, add_comm, eq-or-lt_of_le, le_of_suc-le-suc, not-suc-le-zero}
+use native.Mathlib.Nat.{le_refl, le_trans, mul-le-mul_left, add_comm, eq-or-lt_of_le, le_of_suc-le-suc, not-suc-le-zero}
 use native.Mathlib.Omega.{arith}
 use lib.ListN.{length, get_or, length-append, get_or-append}
 use lib.Seq.{get_or_at}
@@ -20,16 +20,16 @@ use Rattle.rules.specs.Filling.{filled_at, at_start}
 use Rattle.rules.specs.Input.{Input, nodes, run_of, edges_of, predecessors}
 use Rattle.rules.specs.Lasts.{last_before, node_last, lasts_to}
 use Rattle.rules.specs.Longest.{longest_before, up_to, longest}
-use Rattle.rules.specs.Shape.{Every, Loose, Shaped}
+use Rattle.rules.specs.Shape.{Shaped}
 use Rattle.rules.proofs.Lists.{every_weaker}
 use Rattle.rules.proofs.Fold.{states_start}
-use Rattle.rules.proofs.Table.{Weight, worth}
+use Rattle.rules.proofs.Table.{Weight}
 use Rattle.rules.proofs.Refusals.{Checked, predecessor_lower}
 use Rattle.rules.proofs.Nodes.{first_and_others, first_or_other, run_long, each_node}
 use Rattle.rules.proofs.Graph.{last_of, last_stays, Vaguer, vaguer_trans, last_before_lem, start_most}
 use Rattle.rules.proofs.Longest.{before_each, longest_is}
 use Rattle.promises.specs.Paths.{is_path, accesses_of}
-use Rattle.promises.proofs.Value.{value, value_vaguer, value_append, targets_of, targets_append}
+use Rattle.promises.proofs.Value.{value_vaguer, value_append, targets_of, targets_append}
 use Rattle.promises.proofs.Paths.{along_path}
 use Rattle.promises.proofs.AnyPath.{no_predecessors, known, first_known, last_on, last_append}
 use Rattle.promises.proofs.Graphs.{worth_more}

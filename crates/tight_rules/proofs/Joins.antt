@@ -1,10 +1,10 @@
 -- A join is worth no less than either table. Units are paired one pair after the other, no more than are left of either state, so that what a table was worth is what its
 -- pairs are and what is left of it; each pair gives both its states weakened; and what is left is lost, which counts for at least as much. How the pairs are chosen, and
 -- in which order, does not matter to this.
-use mathlib.Core.Path.{◌≡◌, refl, sym, ap, ◌∙◌}
+use mathlib.Core.Path.{◌≡◌, refl, ap, ◌∙◌}
 use mathlib.Core.Logic.{◌≢◌}
 use mathlib.Core.List.{List, [], ◌∷◌, map}
-use Prim.Native.Nat.{ℕ, zero, suc, ◌+◌, ◌-◌, ◌*◌, ◌≤◌, ◌<◌, min}
+use Prim.Native.Nat.{ℕ, zero, suc, ◌+◌, ◌-◌, ◌*◌, ◌≤◌, min}
 use native.Mathlib.Nat.{le_refl, le_trans, min-le_left, min-le_right, mul-le-mul_left}
 use native.Mathlib.Omega.{arith}
 use Rattle.basics.specs.Sums.{sum_over}
@@ -19,10 +19,10 @@ use Rattle.rules.specs.Join.{matched, paired}
 use Rattle.rules.specs.Shape.{Every, Room, Loose, Shaped}
 use Rattle.rules.proofs.Lists.{every_weaker}
 use Rattle.rules.proofs.Listings.{shaped_plus}
-use Rattle.rules.proofs.Table.{states_lawful, Weight, weight_of, worth_of, worth, one, worth_total, worth_add, total_add, every_add}
+use Rattle.rules.proofs.Table.{states_lawful, Weight, weight_of, worth, one, worth_total, worth_add, total_add, every_add}
 use Rattle.rules.proofs.Step.{others}
 use Rattle.rules.proofs.Fold.{loose_meet, loose_at}
-use Rattle.promises.proofs.Weaker.{Weaker, weaker_weighs, meet_left, meet_right}
+use Rattle.promises.proofs.Weaker.{weaker_weighs, meet_left, meet_right}
 use Rattle.tight_rules.specs.Rows.{Rows}
 use Rattle.tight_rules.specs.Reduction.{reduced}
 use Rattle.tight_rules.specs.Join.{Two, in_turn, spend, pair_up, pairing, filled_of, join}

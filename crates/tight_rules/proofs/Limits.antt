@@ -2,7 +2,7 @@
 -- comes after them changes no mask and no miss count.
 use mathlib.Core.Path.{◌≡◌, refl, sym, ap, ◌∙◌}
 use mathlib.Core.Logic.{◌≢◌}
-use mathlib.Core.Bool.{Bool, true, false, cond, true≢false}
+use mathlib.Core.Bool.{Bool, true, false, cond}
 use mathlib.Core.List.{List, [], ◌∷◌, ◌++◌, map, flat_map}
 use Prim.Native.Nat.{ℕ, suc, ◌+◌, ◌-◌, ◌*◌, ◌/◌, ◌%◌, ◌≤◌, ◌<◌, max, min}
 use native.Mathlib.Nat.{le-max_right, max-le, min-le_left}
@@ -15,8 +15,8 @@ use Rattle.rules.specs.declared.Place.TheVariants.{At as at, Untracked as untrac
 use Rattle.rules.specs.declared.State.{State}
 use Rattle.rules.specs.declared.Target.{Target}
 use Rattle.rules.specs.AnyTable.{access as access_of}
-use Rattle.rules.specs.Contents.{places, bit, has, hits, with, without, shared, held, size}
-use Rattle.rules.specs.Table.{units_of, Work}
+use Rattle.rules.specs.Contents.{places, bit, has, hits, without, shared, held, size}
+use Rattle.rules.specs.Table.{units_of}
 use Rattle.rules.specs.Step.{at_risk, missed, rest_of, miss, successors, access}
 use Rattle.rules.specs.Shape.{Every, Aimed}
 use Rattle.rules.proofs.Lists.{every_append, every_map, every_flat_map, every_weaker}
@@ -27,7 +27,7 @@ use Rattle.tight_rules.specs.Rows.{Rows, contents, move, moved, narrow, narrowed
 use Rattle.tight_rules.specs.Reduction.{reduced}
 use Rattle.tight_rules.specs.Ends.{up_to, cut, raise, raised, highest, lowest, ends}
 use Rattle.tight_rules.specs.Run.{alive, stepped}
-use Rattle.tight_rules.proofs.Moves.{Fit, Good, sure_narrowed}
+use Rattle.tight_rules.proofs.Moves.{Fit, sure_narrowed}
 use Rattle.tight_rules.proofs.Few.{move_every, good_none, reduced_few}
 use Rattle.tight_rules.proofs.Runs.{after_fit}
 use Rattle.tight_rules.proofs.Joins.{mid, mid_fit}

@@ -2,7 +2,7 @@
 -- the value along any path ahead, and it is no loss that nothing is set aside for them. No other proof uses this: a block that leaves too early makes the curve worse, not unsafe.
 use mathlib.Core.Path.{◌≡◌, refl, sym, ap, ◌∙◌}
 use mathlib.Core.Bool.{Bool, true, false, cond, ◌||◌, ◌&&◌, true≢false}
-use mathlib.Core.List.{List, [], ◌∷◌, ◌++◌, flat_map}
+use mathlib.Core.List.{List, [], ◌∷◌, flat_map}
 use mathlib.Core.Logic.{◌⊎◌, inl, inr}
 use Prim.Native.Nat.{ℕ, zero, suc, ◌+◌, ◌-◌, ◌≤◌, ◌<◌}
 use native.Mathlib.Nat.{not-suc-le-zero, le_of_suc-le-suc}
@@ -22,7 +22,6 @@ use Rattle.rules.proofs.Refusals.{Checked, predecessor_lower}
 use Rattle.promises.specs.Paths.{linked, leads}
 use Rattle.promises.proofs.Value.{value, value_append, targets_of, targets_append, sub_zero}
 use Rattle.promises.proofs.Paths.{linked_pred}
-use Rattle.tight_rules.specs.Run.{living}
 use Rattle.tight_rules.specs.Live.{live_at, after_node, lives_of, live_after, live_before}
 use Rattle.tight_rules.proofs.Dead.{Deaf, deaf_wider}
 use Rattle.tight_rules.proofs.Moves.{Good}

@@ -5,30 +5,29 @@ use mathlib.Core.Path.{◌≡◌, refl, sym, ap, ◌∙◌}
 use mathlib.Core.Logic.{◌⊎◌, inl, inr, ⊎_elim, ◌≢◌}
 use mathlib.Core.Bool.{Bool, true, false, cond}
 use mathlib.Core.List.{List, [], ◌∷◌, map}
-use Prim.Native.Nat.{ℕ, suc, ◌+◌, ◌-◌, ◌*◌, ◌≤◌, ◌<◌, ◌^◌, max}
+use Prim.Native.Nat.{ℕ, ◌+◌, ◌*◌, ◌≤◌}
 use native.Mathlib.Nat.{le_refl, le_trans, le_of_eq, le-max_left, max-le, min-le_left, mul-le-mul_left}
 use native.Mathlib.Omega.{arith}
 use lib.Dec.{eqb, ltb, leb}
 use lib.ListN.{length}
 use borrow.Author.Tests.{eqb-true}
 use Rattle.basics.specs.Sums.{sum_over}
-use Rattle.basics.proofs.Sums.{sum_map}
 use Rattle.rules.specs.declared.State.{State}
 use Rattle.rules.specs.declared.Place.{Place}
 use Rattle.rules.specs.declared.Filled.{Filled}
 use Rattle.rules.specs.Units.{whole, more}
 use Rattle.rules.specs.AnyTable.{total as total_of}
-use Rattle.rules.specs.Table.{units_of, listing, total, Work, no_state}
+use Rattle.rules.specs.Table.{units_of, listing, total, Work}
 use Rattle.rules.specs.Fold.{changed}
 use Rattle.rules.specs.Filling.{filled_at, fullest}
 use Rattle.rules.specs.Counts.{above as above_of}
-use Rattle.rules.specs.Questions.{above, largest, smallest_budget}
+use Rattle.rules.specs.Questions.{above, smallest_budget}
 use Rattle.rules.specs.Shape.{Every, Room, Loose, Shaped}
 use Rattle.rules.specs.Contents.{shared}
 use Rattle.rules.proofs.Lists.{every_map}
 use Rattle.rules.proofs.Splitting.{more_stops, more_cases}
-use Rattle.rules.proofs.Contents.{Sub, sub_shared_left, shared_lt}
-use Rattle.rules.proofs.Filling.{Fewer, none_at, fullest_at, fewer_left}
+use Rattle.rules.proofs.Contents.{sub_shared_left, shared_lt}
+use Rattle.rules.proofs.Filling.{none_at, fullest_at, fewer_left}
 use Rattle.rules.proofs.Questions.{smallest_most}
 use Rattle.rules.proofs.Longest.{shaped_largest}
 use Rattle.rules.proofs.Listings.{shaped_plus}

@@ -1,6 +1,6 @@
 -- The promises of the second curve, together and with all that they assume: an input that is accepted, by the very definition that refuses it (its verdict says 0). N is
 -- its ways in each set, L the accesses of the path, `whole` is 2^48. The machine and the paths are those of the first curve's promises; it starts empty unless said.
-use mathlib.Core.Path.{◌≡◌, refl, sym, ap, ◌∙◌}
+use mathlib.Core.Path.{◌≡◌, refl, ap, ◌∙◌}
 use mathlib.Core.Bool.{true, false}
 use mathlib.Core.Logic.{◌⊎◌, inl, inr, ⊎_elim}
 use mathlib.Core.List.{List, [], ◌∷◌, flat_map, append-nil}
@@ -46,7 +46,6 @@ use Rattle.tight_rules.specs.Run.{run}
 use Rattle.tight_rules.specs.Live.{live_after}
 use Rattle.tight_rules.specs.Graph.{finished, curve}
 use Rattle.tight_rules.specs.Refusals.{verdict}
-use Rattle.tight_rules.proofs.Moves.{worth_of_all}
 use Rattle.tight_rules.proofs.Runs.{run_high}
 use Rattle.tight_rules.proofs.Graphs.{begun_fit, ahead, node_rows, finished_rows, node_start, path_covers}
 use Rattle.tight_rules.proofs.Curves.{accepted, above_good, above_most, above_least, curve_whole, curve_within, never_above}

@@ -1,32 +1,29 @@
 -- A run, accounted for from its first access to its last: what the table it starts from is worth along its accesses, against N ^ (its length) times what the table it
 -- ends in is worth. Each access is one factor N.
-use mathlib.Core.Path.{◌≡◌, refl, sym, ap, ◌∙◌}
+use mathlib.Core.Path.{◌≡◌, ap, ◌∙◌}
 use mathlib.Core.Logic.{◌⊎◌, inl, inr}
-use mathlib.Core.Bool.{true}
 use mathlib.Core.List.{List, [], ◌∷◌}
 use Prim.Native.Nat.{ℕ, suc, ◌+◌, ◌*◌, ◌^◌, ◌≤◌, ◌<◌}
-use native.Mathlib.Nat.{le_refl, le_trans, le_of_eq, mul-le-mul_left, pow-zero, pow-succ'}
+use native.Mathlib.Nat.{mul-le-mul_left, pow-zero, pow-succ'}
 use native.Mathlib.Omega.{arith}
 use lib.ListN.{length}
-use Rattle.rules.specs.declared.Place.{Place}
-use Rattle.rules.specs.declared.Place.TheVariants.{At as at, Untracked as untracked}
 use Rattle.rules.specs.declared.Target.{Target}
 use Rattle.rules.specs.declared.Last.{Last}
 use Rattle.rules.specs.declared.Last.TheVariants.{Block as block}
-use Rattle.rules.specs.Units.{whole, more}
-use Rattle.rules.specs.Contents.{find, bit, with, target_of}
-use Rattle.rules.specs.Table.{total, Work}
-use Rattle.rules.specs.Step.{access, access_aside}
-use Rattle.rules.specs.Shape.{Every, Aimed, Shaped}
+use Rattle.rules.specs.Units.{whole}
+use Rattle.rules.specs.Contents.{find, with, target_of}
+use Rattle.rules.specs.Table.{total}
+use Rattle.rules.specs.Step.{access_aside}
+use Rattle.rules.specs.Shape.{Aimed}
 use Rattle.rules.proofs.Splitting.{more_stops, more_cases}
-use Rattle.rules.proofs.Contents.{Sub, with_keeps, with_new}
+use Rattle.rules.proofs.Contents.{with_keeps, with_new}
 use Rattle.rules.proofs.Sets.{aimed}
-use Rattle.rules.proofs.Table.{Weight, worth}
+use Rattle.rules.proofs.Table.{Weight}
 use Rattle.rules.proofs.Step.{ahead, access_total}
 use Rattle.rules.proofs.Run.{fits_shaped, access_shaped}
-use Rattle.promises.proofs.Value.{value, Rises, ahead_rises, ahead_most, targets_of}
+use Rattle.promises.proofs.Value.{value, ahead_rises, ahead_most, targets_of}
 use Rattle.promises.proofs.Accesses.{access_low, access_high}
-use Rattle.tight_rules.specs.Rows.{Rows, narrowed, evened}
+use Rattle.tight_rules.specs.Rows.{Rows, narrowed}
 use Rattle.tight_rules.specs.Reduction.{reduced}
 use Rattle.tight_rules.specs.Ends.{ends}
 use Rattle.tight_rules.specs.Run.{living, alive, stepped, advance, run}

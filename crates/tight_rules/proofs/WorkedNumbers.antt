@@ -3,7 +3,7 @@
 use mathlib.Core.Path.{◌≡◌, refl}
 use mathlib.Core.List.{List, [], ◌∷◌, map, flat_map}
 use Prim.Native.Nat.{ℕ, ◌^◌}
-use lib.ListN.{length, set}
+use lib.ListN.{length}
 use Rattle.rules.specs.Units.{whole, more}
 use Rattle.rules.specs.Contents.{places, find, bit, with, without, shared, held_below, held, size, mask_of, of_set, last_after, target_of}
 use Rattle.rules.specs.Filling.{bytes_of, word_from, numbers_of, filled_from, filled_at, with_filled, of_sets, fill_one, fullest, at_start}

@@ -1,6 +1,6 @@
 -- A graph: each node is worked once, in order, with one table at each, from the joined tables of its predecessors.
 use Rattle.std.specs.Prelude.{List, [], ◌∷◌, ◌++◌, ℕ, zero, suc, ◌-◌, length, get_or}
-use Rattle.rules.specs.Input.{Input, nodes, run_of, edges_of, predecessors}
+use Rattle.rules.specs.Input.{run_of, edges_of, predecessors}
 use Rattle.rules.specs.Lasts.{last_before, lasts_to}
 use Rattle.rules.specs.declared.Filled.{Filled}
 use Rattle.rules.specs.Filling.{at_start}

@@ -1,5 +1,5 @@
 -- Reduction to at most K contents: light contents lose their highest place. Whole rows move; miss counts stay as they are.
-use Rattle.std.specs.Prelude.{Bool, true, false, cond, ◌&&◌, not, List, [], ◌∷◌, ℕ, zero, suc, ◌-◌, ◌^◌, eqb, ltb, leb, length}
+use Rattle.std.specs.Prelude.{Bool, true, false, cond, ◌&&◌, not, List, [], ◌∷◌, ℕ, zero, suc, ◌-◌, ◌^◌, eqb, ltb, length}
 use Rattle.rules.specs.declared.Place.{Place}
 use Rattle.rules.specs.declared.Place.TheVariants.{At as at, Untracked as untracked}
 use Rattle.rules.specs.Contents.{places, among, bit, without}

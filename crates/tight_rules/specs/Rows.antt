@@ -1,8 +1,8 @@
 -- The second analysis' table. It is a list of document 01's states, so that the laws of those serve: the states of one contents mask are its row, one for each miss
 -- count that has units, and nothing limits how many a row has but its ends (Ends.antt). Beside them are the lost units, which count as if every access missed.
-use Rattle.std.specs.Prelude.{cond, List, [], ◌∷◌, map, ℕ, ◌+◌, eqb}
+use Rattle.std.specs.Prelude.{cond, List, [], ◌∷◌, map, ℕ, eqb}
 use Rattle.basics.specs.Sums.{sum_over}
-use Rattle.rules.specs.Units.{whole, more}
+use Rattle.rules.specs.Units.{more}
 use Rattle.rules.specs.declared.Filled.{Filled}
 use Rattle.rules.specs.Filling.{fullest}
 use Rattle.rules.specs.declared.State.{State}

@@ -1,5 +1,4 @@
 -- `largest` meets its contract.
-use Prim.Native.Nat.{◌-◌}
 use native.Mathlib.Nat.{zero-max}
 use borrow.Author.Rules.{rules}
 use Rattle.cycle_check.proofs.MostMisses.{largest_next, largest_end}

@@ -1,6 +1,5 @@
 -- `all_tracked` meets its contract.
 use mathlib.Core.Path.{sym, ◌∙◌}
-use Prim.Native.Nat.{◌-◌}
 use borrow.Author.Rules.{rules}
 use Rattle.rules.specs.Contents.{all_tracked}
 use Rattle.basics.proofs.Lists.{list_next, list_end}

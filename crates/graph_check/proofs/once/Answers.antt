@@ -1,5 +1,4 @@
 -- `once` meets its contract.
-use Prim.Native.Nat.{◌-◌}
 use borrow.Author.Rules.{rules}
 use Rattle.rules.specs.Contents.{once}
 use Rattle.basics.proofs.Lists.{list_end}

@@ -1,5 +1,5 @@
 -- `sum` meets its contract.
-use Prim.Native.Nat.{◌+◌, ◌-◌}
+use Prim.Native.Nat.{◌+◌}
 use native.Mathlib.Omega.{arith}
 use Rattle.basics.specs.Sums.{sum_over}
 use Rattle.basics.proofs.Lists.{list_next, list_end}

@@ -1,9 +1,7 @@
 -- `put_listed` meets its contract: 9 for numbers that are not complete, then the refusal of the listing, then the curve program's input with its graph; a refusal
 -- leaves the rooms as they were.
 use mathlib.Core.Path.{refl}
-use Prim.Native.Nat.{◌+◌, ◌-◌}
 use native.Mathlib.Omega.{arith}
-use lib.ListN.{length, take, drop}
 use Rattle.listing.proofs.Calls.{expansion_refused, expansion_kept, expansion_shown}
 use Rattle.writing.proofs.Putting.{put_is}
 use Rattle.writing.proofs.Told.{cleared}

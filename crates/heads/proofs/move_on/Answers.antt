@@ -1,5 +1,4 @@
 -- `move_on` changes places with each head behind it that is less.
-use Prim.Native.Nat.{◌-◌}
 use native.Mathlib.Omega.{arith}
 use lib.ListN.{length-set}
 use Rattle.heads.proofs.Rows.{going_start, going_next, going_end, further, stays_outside, stays_open}

@@ -1,16 +1,11 @@
 -- `fill_starts` meets its contract. The invariant of its loop: the numbers of the nodes from node v on stand where they belong, with what was behind them, and the
 -- run of the node before node v ends at `to`.
-use mathlib.Core.Path.{◌≡◌, refl, sym, ap, ◌∙◌}
-use mathlib.Core.List.{List, ◌++◌}
-use Prim.Native.Nat.{ℕ, ◌+◌, ◌-◌, ◌≤◌}
+use mathlib.Core.Path.{◌≡◌, refl, sym, ◌∙◌}
+use Prim.Native.Nat.{◌+◌, ◌-◌, ◌≤◌}
 use native.Mathlib.Omega.{arith}
 use borrow.Author.Rules.{rules}
-use lib.ListN.{length, get_or, set, take, drop, length-set}
-use lib.Seq.{take_all}
-use Rattle.basics.specs.Sums.{sum_over}
-use Rattle.rules.specs.Input.{Input, offset, edges_of}
-use Rattle.tight_rules.specs.Run.{living}
-use Rattle.tight_rules.specs.Live.{after_node, lives_of}
+use lib.ListN.{length, get_or, drop, length-set}
+use Rattle.rules.specs.Input.{Input, offset}
 use Rattle.live.specs.Starts.{graph_of}
 use Rattle.live.proofs.Lives.{Held, held_none, held_all, node_done, run_fits, offset_all}
 use Rattle.live.proofs.fill_starts.Statement.{statement}
@@ -45,8 +40,7 @@ sub-from c = omega (arith, fits c.before)
 
 loop-again : tie.Need-loop-v-preserved invariant-loop decreases-loop
 loop-again c =
-    let l = c.loop-v in
-    (
+    let l = c.loop-v in (
       omega (arith, l.invariant.0),
       length-set l.starts (l.v - 1) _ ∙ l.invariant.1,
       omega (arith, l.invariant.2),

@@ -4,7 +4,7 @@ use borrow.Author.Rules.{rules}
 use Rattle.rules.specs.declared.Verdict.TheVariants.{Accepted}
 use Rattle.rules.specs.Input.{Input}
 use Rattle.rules.specs.Refusals.{verdict}
-use Rattle.rules.proofs.Refusals.{Checked, checked}
+use Rattle.rules.proofs.Refusals.{checked}
 use Rattle.live.specs.Starts.{graph_of}
 use Rattle.live.proofs.Lives.{starts_refused, starts_found}
 use Rattle.live.proofs.live_starts.Statement.{statement}

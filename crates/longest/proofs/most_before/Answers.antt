@@ -1,6 +1,6 @@
 -- `most_before` meets its contract.
 use mathlib.Core.Path.{ap, ◌∙◌}
-use Prim.Native.Nat.{◌+◌, ◌-◌, max}
+use Prim.Native.Nat.{◌+◌, max}
 use native.Mathlib.Nat.{zero-max}
 use native.Mathlib.Omega.{arith}
 use borrow.Author.Rules.{rules}
@@ -25,7 +25,7 @@ loop-e-preserved c =
     let rest = l.invariant.1 in (
       search rules,
       elim c.if-edges-e.branch [
-        then-edges-e w ↦ most_here a.ends.now a.edges.now a.node l.e l.most _ rest c.loop-e-test.true w.if-edges-e.true c.if-edges-e.most (w.most-is ∙ w.larger-most.ensures ∙ ap (max l.most) w.end_of.ensures)
+        | then-edges-e w ↦ most_here a.ends.now a.edges.now a.node l.e l.most _ rest c.loop-e-test.true w.if-edges-e.true c.if-edges-e.most (w.most-is ∙ w.larger-most.ensures ∙ ap (max l.most) w.end_of.ensures)
         | else-edges-e w ↦ rw w.most-is (most_other a.ends.now a.edges.now a.node l.e l.most _ rest c.loop-e-test.true w.if-edges-e.false)
       ],
     )

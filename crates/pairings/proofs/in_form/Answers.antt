@@ -1,6 +1,5 @@
 -- `in_form` counts the rows down, entry by entry.
 use mathlib.Core.Path.{sym, ◌∙◌}
-use Prim.Native.Nat.{◌-◌}
 use native.Mathlib.Omega.{arith}
 use Rattle.pairings.proofs.Rows.{form_other, form_same, entry_many, entry_short, entry_fits_lem, entry_end}
 use borrow.Author.Rules.{rules}

@@ -1,5 +1,5 @@
 -- `joins_at` counts the edges to the node.
-use Prim.Native.Nat.{◌+◌, ◌-◌}
+use Prim.Native.Nat.{◌+◌}
 use native.Mathlib.Omega.{arith}
 use Rattle.pairings.proofs.Joins.{many_here, many_other, many_end}
 use borrow.Author.Rules.{rules}
@@ -20,7 +20,7 @@ loop-e-preserved c =
       search rules,
       elim c.if-edges-e.branch [ then-edges-e w ↦ omega (arith, w.many-is, l.invariant.1) | else-edges-e w ↦ omega (arith, w.many-is, l.invariant.1) ],
       elim c.if-edges-e.branch [
-        then-edges-e w ↦ many_here a.edges.now a.node l.e l.many _ l.invariant.2 here w.if-edges-e.true c.if-edges-e.many w.many-is
+        | then-edges-e w ↦ many_here a.edges.now a.node l.e l.many _ l.invariant.2 here w.if-edges-e.true c.if-edges-e.many w.many-is
         | else-edges-e w ↦ rw w.many-is (many_other a.edges.now a.node l.e l.many _ l.invariant.2 here w.if-edges-e.false)
       ],
     )

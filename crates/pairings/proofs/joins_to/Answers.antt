@@ -1,6 +1,6 @@
 -- `joins_to` adds the joins of one node after the other, which are no more than the edges.
 use mathlib.Core.Path.{◌≡◌}
-use Prim.Native.Nat.{suc, ◌-◌}
+use Prim.Native.Nat.{suc}
 use native.Mathlib.Numerals.{add-one}
 use native.Mathlib.Omega.{arith}
 use Rattle.rules.specs.Input.{edges_of}

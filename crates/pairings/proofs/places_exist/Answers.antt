@@ -1,6 +1,5 @@
 -- `places_exist` tests one row after the other.
 use mathlib.Core.Path.{refl}
-use Prim.Native.Nat.{◌-◌}
 use Rattle.pairings.proofs.Rows.{exist_next, exist_end}
 use borrow.Author.Tests.{not-true, not-false}
 use borrow.Author.Rules.{rules}

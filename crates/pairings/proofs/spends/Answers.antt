@@ -1,6 +1,5 @@
 -- `spends` takes the units of one row after the other.
 use mathlib.Core.Path.{refl}
-use Prim.Native.Nat.{◌-◌}
 use native.Mathlib.Omega.{arith}
 use Rattle.pairings.specs.Rows.{side_of}
 use Rattle.pairings.proofs.Rows.{spent_next, spent_more, spent_end}

@@ -1,6 +1,5 @@
 -- `uses_each` goes through the states.
 use mathlib.Core.Path.{refl}
-use Prim.Native.Nat.{◌-◌}
 use Rattle.pairings.proofs.Rows.{each_next, each_end}
 use borrow.Author.Tests.{not-true, not-false}
 use borrow.Author.Rules.{rules}

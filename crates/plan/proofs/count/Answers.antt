@@ -1,6 +1,6 @@
 -- `count` goes through the masks.
 use mathlib.Core.Path.{◌≡◌}
-use Prim.Native.Nat.{◌+◌, ◌-◌}
+use Prim.Native.Nat.{◌+◌}
 use native.Mathlib.Omega.{arith}
 use Rattle.plan.specs.Plan.{present_in}
 use Rattle.plan.proofs.Steps.{present_next, present_most, present_none}

@@ -1,6 +1,6 @@
 -- `follow` goes from mask to mask. The invariant of its loop: what is left of the steps leads from here to the same end.
 use mathlib.Core.Path.{◌≡◌}
-use Prim.Native.Nat.{◌+◌, ◌-◌, ◌≤◌, ◌<◌}
+use Prim.Native.Nat.{◌+◌, ◌≤◌, ◌<◌}
 use lib.ListN.{length}
 use Rattle.plan.specs.Plan.{onward, end_of}
 use Rattle.plan.proofs.follow.Given as goal

@@ -1,6 +1,6 @@
 -- `keep_all` goes from the last mask down. The invariant of its loop: with the masks below m yet to come the words are those of the whole.
 use mathlib.Core.Path.{◌≡◌}
-use Prim.Native.Nat.{◌-◌, ◌≤◌}
+use Prim.Native.Nat.{◌≤◌}
 use lib.ListN.{length}
 use Rattle.plan.specs.Plan.{itself}
 use Rattle.plan.proofs.keep_all.Given as goal

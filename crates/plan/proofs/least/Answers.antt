@@ -1,6 +1,6 @@
 -- `least` goes through the masks.
 use mathlib.Core.Path.{◌≡◌, ◌∙◌}
-use Prim.Native.Nat.{◌+◌, ◌-◌}
+use Prim.Native.Nat.{◌+◌}
 use native.Mathlib.Omega.{arith}
 use Rattle.plan.proofs.Steps.{lightest_next, lightest_none}
 use borrow.Author.Rules.{rules}

@@ -1,6 +1,6 @@
 -- `lower` looks at the places from the highest down. The invariant of its loop: the places from i on are none that the contents can lose.
 use mathlib.Core.Path.{◌≡◌}
-use Prim.Native.Nat.{◌≤◌, ◌-◌}
+use Prim.Native.Nat.{◌≤◌}
 use Rattle.rules.specs.Contents.{places}
 use Rattle.tight_rules.specs.Reduction.{lowered}
 use Rattle.plan.proofs.lower.Given as goal

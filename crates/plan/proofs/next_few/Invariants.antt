@@ -1,6 +1,6 @@
 -- `next_few` goes down by four masks, as `next_singly` does by one, with the same invariant.
 use mathlib.Core.Path.{◌≡◌}
-use Prim.Native.Nat.{◌-◌, ◌≤◌}
+use Prim.Native.Nat.{◌≤◌}
 use Rattle.plan.specs.Next.{next_few}
 use Rattle.plan.proofs.next_few.Given as goal
 

@@ -1,6 +1,6 @@
 -- `next_singly` goes down. The invariant of its loop: the masks passed have no or too many units.
 use mathlib.Core.Path.{◌≡◌}
-use Prim.Native.Nat.{◌-◌, ◌≤◌}
+use Prim.Native.Nat.{◌≤◌}
 use Rattle.plan.specs.Next.{next_few}
 use Rattle.plan.proofs.next_singly.Given as goal
 

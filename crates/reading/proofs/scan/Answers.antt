@@ -1,5 +1,4 @@
 -- `scan` meets its contract.
-use Prim.Native.Nat.{◌-◌}
 use native.Mathlib.Omega.{arith}
 use borrow.Author.Rules.{rules}
 use Rattle.reading.proofs.Scanning.{byte_next, too_long, found}

@@ -1,5 +1,4 @@
 -- `all_fit` meets its contract.
-use Prim.Native.Nat.{◌-◌}
 use borrow.Author.Rules.{rules}
 use Rattle.rules.specs.Questions.{all_fitting}
 use Rattle.words.proofs.Tables.{state_end}

@@ -1,5 +1,4 @@
 -- `rising` meets its contract.
-use Prim.Native.Nat.{◌-◌}
 use borrow.Author.Rules.{rules}
 use Rattle.table_check.proofs.Fitting.{rising_next, rising_end}
 use Rattle.table_check.proofs.rising.Goals as goal

@@ -1,5 +1,4 @@
 -- `look_up` goes through the list.
-use Prim.Native.Nat.{◌-◌}
 use native.Mathlib.Omega.{arith}
 use Rattle.tables.proofs.Masks.{find_start, find_here, find_next, find_none}
 use borrow.Author.Rules.{rules}

@@ -1,6 +1,6 @@
 -- `mates_of` knows all of one set, and else goes from the last tracked block to the first. The invariant of its loop: the mask is that of the blocks passed.
 use mathlib.Core.Path.{◌≡◌}
-use Prim.Native.Nat.{◌-◌, ◌≤◌, ◌<◌}
+use Prim.Native.Nat.{◌≤◌, ◌<◌}
 use lib.ListN.{length}
 use Rattle.tables.proofs.Masks.{set_from}
 use Rattle.tables.proofs.mates_of.Given as goal

@@ -1,6 +1,6 @@
 -- `next_edge` goes from edge to edge.
 use mathlib.Core.Path.{refl, sym, ◌∙◌}
-use Prim.Native.Nat.{◌+◌, ◌-◌}
+use Prim.Native.Nat.{◌+◌}
 use native.Mathlib.Omega.{arith}
 use Rattle.tables.proofs.Edges.{next_here, next_other, next_none, next_past}
 use borrow.Author.Rules.{rules}

@@ -1,6 +1,5 @@
 -- `pair_row` goes row by row.
 use mathlib.Core.Path.{refl}
-use Prim.Native.Nat.{◌-◌}
 use native.Mathlib.Omega.{arith}
 use borrow.Author.Rules.{rules}
 use Rattle.tight_pairs.proofs.Matched.{still_pairable, row_start_lem, row_next, row_all}

@@ -1,6 +1,5 @@
 -- `pair_rows` goes row by row.
 use mathlib.Core.Path.{refl}
-use Prim.Native.Nat.{◌-◌}
 use native.Mathlib.Omega.{arith}
 use borrow.Author.Rules.{rules}
 use Rattle.tight_pairs.proofs.Matched.{still_pairable, rows_start, rows_next, rows_all}

@@ -6,7 +6,7 @@ use Rattle.rules.specs.Answers.{first}
 use Rattle.tight_rules.specs.Asked.{Asked, asked_in}
 use Rattle.tight_rules.specs.Rooms.{table_words, room_needed}
 use Rattle.tight_rules.specs.Refusals.{before_rooms}
-use Rattle.tight_refusals.proofs.Judging.{Few, few, needed, none_needed}
+use Rattle.tight_refusals.proofs.Judging.{few, needed, none_needed}
 use Rattle.tight_refusals.proofs.room_needed.Statement.{statement}
 use Rattle.tight_refusals.proofs.room_needed.Tie as tie
 

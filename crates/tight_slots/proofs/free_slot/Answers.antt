@@ -1,6 +1,5 @@
 -- `free_slot` meets its contract.
 use mathlib.Core.Path.{sym, ◌∙◌}
-use Prim.Native.Nat.{◌-◌}
 use borrow.Author.Rules.{rules}
 use Rattle.rules.specs.Input.{edges_of}
 use Rattle.tight_slots.specs.Slots.{is_taken}

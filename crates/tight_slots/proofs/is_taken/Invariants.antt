@@ -1,6 +1,6 @@
 -- `is_taken` meets its contract. The invariant of its loop: the slot is taken where it is by one of the nodes below node u.
 use mathlib.Core.Path.{◌≡◌}
-use Prim.Native.Nat.{◌-◌, ◌≤◌}
+use Prim.Native.Nat.{◌≤◌}
 use Rattle.rules.specs.Input.{edges_of}
 use Rattle.tight_slots.specs.Slots.{is_taken}
 use Rattle.tight_slots.proofs.is_taken.Given as goal

@@ -1,6 +1,6 @@
 -- `kept_at` meets its contract. The invariant of its loop: those counted so far, and those below node u, are all.
 use mathlib.Core.Path.{◌≡◌}
-use Prim.Native.Nat.{◌+◌, ◌-◌}
+use Prim.Native.Nat.{◌+◌}
 use Rattle.rules.specs.Input.{edges_of}
 use Rattle.tight_rules.specs.Rooms.{kept_below}
 use Rattle.tight_slots.proofs.kept_at.Given as goal

@@ -1,6 +1,5 @@
 -- `clear_bytes` zeroes every byte.
 use mathlib.Core.Path.{refl}
-use Prim.Native.Nat.{◌-◌}
 use native.Mathlib.Omega.{arith}
 use borrow.Author.Fill.{fill_none, fill_more}
 use Rattle.basics.proofs.Lists.{all_filled}

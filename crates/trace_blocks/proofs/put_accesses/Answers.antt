@@ -1,6 +1,5 @@
 -- `put_accesses` meets its contract.
 use mathlib.Core.Path.{refl}
-use Prim.Native.Nat.{◌-◌}
 use borrow.Author.Rules.{rules}
 use Rattle.trace_blocks.proofs.Stored.{put_next, put_end}
 use Rattle.trace_blocks.proofs.put_accesses.Goals as goal

@@ -1,6 +1,5 @@
 -- `clear` zeroes every word.
 use mathlib.Core.Path.{refl}
-use Prim.Native.Nat.{◌-◌}
 use native.Mathlib.Omega.{arith}
 use borrow.Author.Fill.{fill_none, fill_more}
 use Rattle.basics.proofs.Lists.{all_filled}

@@ -1,6 +1,5 @@
 -- `put` meets its contract.
 use mathlib.Core.Path.{refl, ◌∙◌}
-use Prim.Native.Nat.{◌-◌}
 use borrow.Author.Rules.{rules}
 use Rattle.writing.proofs.Putting.{bytes_less, bytes_all}
 use Rattle.writing.proofs.put.Goals as goal

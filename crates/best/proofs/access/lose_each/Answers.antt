@@ -1,6 +1,6 @@
 -- `lose_each` goes from one of the places to the next.
 use mathlib.Core.Path.{◌≡◌, refl, ◌∙◌}
-use Prim.Native.Nat.{◌+◌, ◌-◌}
+use Prim.Native.Nat.{◌+◌}
 use native.Mathlib.Omega.{arith}
 use Rattle.rules.specs.Contents.{held_below}
 use Rattle.words.specs.BestTables.{table_of}

@@ -1,7 +1,7 @@
 -- `carry` goes state by state. The invariant of its loop: i states are carried.
 use mathlib.Core.Path.{◌≡◌}
 use mathlib.Core.List.{◌++◌}
-use Prim.Native.Nat.{◌+◌, ◌*◌, ◌-◌, ◌≤◌}
+use Prim.Native.Nat.{◌*◌, ◌-◌, ◌≤◌}
 use lib.ListN.{length, take, drop}
 use Rattle.words.specs.BestTables.{table_of, words_of}
 use Rattle.best.proofs.finish.carry.Given as goal

@@ -1,6 +1,5 @@
 -- `choose` searches twice, place by place.
-use mathlib.Core.Logic.{⊎_elim}
-use Prim.Native.Nat.{suc, ◌+◌, ◌-◌, ◌≤◌, ◌<◌}
+use Prim.Native.Nat.{suc, ◌+◌, ◌≤◌, ◌<◌}
 use native.Mathlib.Omega.{arith}
 use lib.ListN.{length}
 use borrow.Author.Rules.{rules}
@@ -27,7 +26,7 @@ search-preserved c =
       search rules,
       up,
       elim c.if-u-units.branch [
-        then-u-units w ↦ rw (w.fewest-is, w.units-is) (fewest_less kind t a.n room _ _ _ _ more c.load-then-i-n.ensures c.search.invariant.2 w.if-u-units.true)
+        | then-u-units w ↦ rw (w.fewest-is, w.units-is) (fewest_less kind t a.n room _ _ _ _ more c.load-then-i-n.ensures c.search.invariant.2 w.if-u-units.true)
         | else-u-units w ↦ rw (w.fewest-is, w.units-is) (fewest_more kind t a.n room _ _ _ _ more c.load-then-i-n.ensures c.search.invariant.2 w.if-u-units.false)
       ],
     )
@@ -68,7 +67,7 @@ loop-j-preserved c =
     let h = c.loop-j.invariant.1 in (
       search rules,
       elim c.if-closer.branch [
-        then-closer w ↦ rw (w.partner-is, w.near-is) (partner_closer t a.n room _ among _ _ _ _ next place there _ _ _ _ near said h w.if-closer.true)
+        | then-closer w ↦ rw (w.partner-is, w.near-is) (partner_closer t a.n room _ among _ _ _ _ next place there _ _ _ _ near said h w.if-closer.true)
         | else-closer w ↦ rw (w.partner-is, w.near-is) (partner_other t a.n room _ among _ _ _ _ next place there _ _ _ _ near said h w.if-closer.false)
       ],
     )

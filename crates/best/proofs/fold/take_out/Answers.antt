@@ -1,6 +1,5 @@
 -- `take_out` moves the states behind the place down by one.
 use mathlib.Core.Path.{refl}
-use Prim.Native.Nat.{◌-◌}
 use native.Mathlib.Omega.{arith}
 use borrow.Author.Rules.{rules}
 use Rattle.words.proofs.BestTables.{below_table}
@@ -13,11 +12,11 @@ loop-j-init c = (search rules, search rules, refl, closing_none listing _ _)
 
 pub loop-j-preserved : goal.loop-j-preserved
 loop-j-preserved c = let h = c.loop-j in (
-      search rules,
-      search rules,
-      search rules,
-      closing_turn listing _ _ _ _ _ _ h.invariant.0 (below_table _ _ (omega arith)) (below_table _ _ (omega arith)) h.invariant.3 c.load-t.ensures c.store.ensures,
-    )
+  search rules,
+  search rules,
+  search rules,
+  closing_turn listing _ _ _ _ _ _ h.invariant.0 (below_table _ _ (omega arith)) (below_table _ _ (omega arith)) h.invariant.3 c.load-t.ensures c.store.ensures,
+)
 
 pub returns : goal.returns
 returns c = let a = c.args in

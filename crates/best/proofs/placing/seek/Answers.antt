@@ -1,5 +1,4 @@
 -- `seek` halves the stretch in which the place lies.
-use Prim.Native.Nat.{◌-◌}
 use native.Mathlib.Omega.{arith}
 use mathlib.Core.Path.{◌≡◌}
 use Rattle.words.specs.BestTables.{table_of}
@@ -17,21 +16,21 @@ loop-low-init c = let a = c.args in
 
 pub loop-low-preserved-then-is_after : goal.loop-low-preserved-then-is_after
 loop-low-preserved-then-is_after c = let a = c.args in (
-      omega arith,
-      search rules,
-      seek_up listing a.s a.n (table_of a.words.now) (fits_table a.words.now a.n (omega arith)) _ _ _ (omega arith)
-          c.load.ensures c.is_after.ensures best_orders c.requires.1 c.if-is_after.true,
-      c.loop-low.invariant.3,
-    )
+  omega arith,
+  search rules,
+  seek_up listing a.s a.n (table_of a.words.now) (fits_table a.words.now a.n (omega arith)) _ _ _ (omega arith)
+      c.load.ensures c.is_after.ensures best_orders c.requires.1 c.if-is_after.true,
+  c.loop-low.invariant.3,
+)
 
 pub loop-low-preserved : goal.loop-low-preserved
 loop-low-preserved c = let a = c.args in (
-      omega arith,
-      omega arith,
-      c.loop-low.invariant.2,
-      seek_down listing a.s a.n (table_of a.words.now) (fits_table a.words.now a.n (omega arith)) _ _ _ (omega arith)
-          c.load.ensures c.is_after.ensures c.if-is_after.false,
-    )
+  omega arith,
+  omega arith,
+  c.loop-low.invariant.2,
+  seek_down listing a.s a.n (table_of a.words.now) (fits_table a.words.now a.n (omega arith)) _ _ _ (omega arith)
+      c.load.ensures c.is_after.ensures c.if-is_after.false,
+)
 
 pub returns : goal.returns
 returns c = let a = c.args in

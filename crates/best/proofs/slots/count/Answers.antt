@@ -1,6 +1,6 @@
 -- `count` goes through the slot.
 use mathlib.Core.Path.{sym, ap, ◌∙◌}
-use Prim.Native.Nat.{◌+◌, ◌-◌}
+use Prim.Native.Nat.{◌+◌}
 use native.Mathlib.Omega.{arith}
 use Rattle.best.specs.Tables.{units_of}
 use Rattle.words.specs.BestTables.{table_of}

@@ -19,11 +19,11 @@ loop-i-init c = let a = c.args in
 
 pub loop-i-preserved : goal.loop-i-preserved
 loop-i-preserved c = let a = c.args in (
-      search rules,
-      search rules,
-      search rules,
-      seal_turn listing (table_of a.work.now) a.at a.n c.loop-i.i (fits_table a.work.now (a.at + 64) (omega arith)) (omega arith) (omega arith) _ _ c.loop-i.invariant.3 c.store.ensures,
-    )
+  search rules,
+  search rules,
+  search rules,
+  seal_turn listing (table_of a.work.now) a.at a.n c.loop-i.i (fits_table a.work.now (a.at + 64) (omega arith)) (omega arith) (omega arith) _ _ c.loop-i.invariant.3 c.store.ensures,
+)
 
 pub returns : goal.returns
 returns c = let past : c.loop-i.i ≡ 64 = omega arith in rw past at c.loop-i.invariant.3

@@ -1,5 +1,4 @@
 -- `largest` meets its contract.
-use Prim.Native.Nat.{◌-◌}
 use native.Mathlib.Nat.{zero-max}
 use borrow.Author.Rules.{rules}
 use Rattle.best_questions.proofs.Counting.{largest_next, largest_end}
@@ -9,11 +8,10 @@ pub loop-i-init : goal.loop-i-init
 loop-i-init c = (search rules, zero-max _)
 
 pub loop-i-preserved : goal.loop-i-preserved
-loop-i-preserved c =
-    (
-      search rules,
-      largest_next _ _ _ _ c.loop-i.invariant.1 c.loop-i-test.true _ c.best_at.ensures _ c.counted.ensures _ c.larger-most.ensures,
-    )
+loop-i-preserved c = (
+  search rules,
+  largest_next _ _ _ _ c.loop-i.invariant.1 c.loop-i-test.true _ c.best_at.ensures _ c.counted.ensures _ c.larger-most.ensures,
+)
 
 pub returns : goal.returns
 returns c = largest_end _ _ _ _ c.loop-i.invariant.1 c.loop-i-test.false

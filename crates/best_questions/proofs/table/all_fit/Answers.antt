@@ -1,5 +1,4 @@
 -- `all_fit` meets its contract.
-use Prim.Native.Nat.{◌-◌}
 use borrow.Author.Rules.{rules}
 use Rattle.rules.specs.BestQuestions.{all_best_fitting}
 use Rattle.words.proofs.BestTables.{state_end}

@@ -1,6 +1,5 @@
 -- `is_whole` meets its contract.
 use mathlib.Core.Path.{refl}
-use Prim.Native.Nat.{◌-◌}
 use native.Mathlib.Omega.{arith}
 use borrow.Author.Rules.{rules}
 use Rattle.best_questions.proofs.Fitting.{whole_next, whole_passed, whole_end}

@@ -1,5 +1,4 @@
 -- `rising` meets its contract.
-use Prim.Native.Nat.{◌-◌}
 use borrow.Author.Rules.{rules}
 use Rattle.best_questions.proofs.Fitting.{rising_next, rising_end}
 use Rattle.best_questions.proofs.table.rising.Goals as goal

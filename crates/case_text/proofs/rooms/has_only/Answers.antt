@@ -1,6 +1,5 @@
 -- `has_only` meets its contract.
 use mathlib.Core.Path.{◌∙◌, sym}
-use Prim.Native.Nat.{◌-◌}
 use borrow.Author.Rules.{rules}
 use borrow.Author.Tests.{le-leb, lt-leb}
 use Rattle.case_text.proofs.Walked.{word_same, word_other, words_end}

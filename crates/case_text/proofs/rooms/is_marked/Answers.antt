@@ -1,6 +1,5 @@
 -- `is_marked` meets its contract.
 use mathlib.Core.Path.{◌∙◌, sym}
-use Prim.Native.Nat.{◌-◌}
 use borrow.Author.Rules.{rules}
 use Rattle.case_text.specs.Rooms.{mark_of}
 use Rattle.case_text.proofs.Walked.{word_same, word_other, words_end}

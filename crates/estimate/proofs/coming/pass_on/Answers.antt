@@ -17,5 +17,8 @@ returns-then-stream_in-gt15 c = let a = c.args in
 
 pub returns : goal.returns
 returns c = let a = c.args in
-    let on : ltb 15 (stream_in a.head) ≡ _ = le-ltb 15 (stream_in a.head) (omega (arith, c.if-stream_in-gt15.false, c.stream_in.ensures)) in record { value = sym (ap (λ (b : Bool). cond b (suc a.at) a.at) on); heads_after = c.move_on.ensures ∙ ap (λ (h : ℕ). moved_on a.at h a.heads.now) c.next_head.ensures
-          ∙ sym (ap (λ (b : Bool). cond b a.heads.now (moved_on a.at (next_head a.mask a.own a.head) a.heads.now)) on) }
+    let on : ltb 15 (stream_in a.head) ≡ _ = le-ltb 15 (stream_in a.head) (omega (arith, c.if-stream_in-gt15.false, c.stream_in.ensures)) in record {
+      value = sym (ap (λ (b : Bool). cond b (suc a.at) a.at) on);
+      heads_after = c.move_on.ensures ∙ ap (λ (h : ℕ). moved_on a.at h a.heads.now) c.next_head.ensures
+          ∙ sym (ap (λ (b : Bool). cond b a.heads.now (moved_on a.at (next_head a.mask a.own a.head) a.heads.now)) on);
+    }

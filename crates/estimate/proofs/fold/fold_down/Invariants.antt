@@ -5,7 +5,7 @@ use mathlib.Core.Bool.{true}
 use Prim.Native.Nat.{◌≤◌}
 use lib.ListN.{length, take}
 use Rattle.rules.specs.Table.{rising}
-use Rattle.rules.specs.Fold.{folded, states}
+use Rattle.rules.specs.Fold.{folded}
 use Rattle.words.specs.Tables.{table_of}
 use Rattle.tables.proofs.Folding.{work_of}
 use Rattle.estimate.proofs.fold.fold_down.Given as goal

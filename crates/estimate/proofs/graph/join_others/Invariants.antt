@@ -12,7 +12,6 @@ use Rattle.words.specs.Tables.{table_of}
 use Rattle.estimate.specs.Rooms.{worked_in}
 use Rattle.tables.specs.Edges.{came_from, AtEdge}
 use Rattle.estimate.specs.Working.{work_at}
-use Rattle.rules.specs.Fold.{states}
 use Rattle.estimate.proofs.graph.join_others.Given as goal
 
 abbrev pub invariant-loop-e : goal.invariant-loop-e

@@ -1,5 +1,4 @@
 -- `pair_rows` adds one row's pair after the other.
-use Prim.Native.Nat.{◌-◌}
 use Rattle.estimate.proofs.HandedIn.{rowing_none, rowing_room, rowing_more, rowing_end}
 use Rattle.estimate.proofs.handed.pair_rows.Goals as goal
 

@@ -1,6 +1,5 @@
 -- `rows_before` adds the rows of one entry after the other; together they are no more than there are.
 use mathlib.Core.Path.{◌≡◌, sym}
-use Prim.Native.Nat.{◌-◌}
 use native.Mathlib.Numerals.{add-one}
 use native.Mathlib.Omega.{arith}
 use Rattle.estimate.proofs.HandedIn.{told_none, told_next}

@@ -1,6 +1,6 @@
 -- `run_of` goes on as long as the states do.
 use mathlib.Core.Path.{ap}
-use Prim.Native.Nat.{◌+◌, ◌-◌}
+use Prim.Native.Nat.{◌+◌}
 use native.Mathlib.Omega.{arith}
 use Rattle.rules.specs.Table.{state_at}
 use Rattle.words.specs.Tables.{table_of}

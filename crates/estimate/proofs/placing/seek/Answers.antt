@@ -1,5 +1,4 @@
 -- `seek` halves the stretch in which the place lies.
-use Prim.Native.Nat.{◌-◌}
 use native.Mathlib.Omega.{arith}
 use mathlib.Core.Path.{◌≡◌, refl}
 use Rattle.words.specs.Tables.{table_of}
@@ -17,21 +16,21 @@ loop-low-init c = let a = c.args in
 
 pub loop-low-preserved-then-is_behind : goal.loop-low-preserved-then-is_behind
 loop-low-preserved-then-is_behind c = let a = c.args in (
-      omega arith,
-      search rules,
-      seek_up listing a.s a.n (table_of a.words.now) (fits_table a.words.now a.n (omega arith)) _ _ _ (omega arith)
-          refl c.is_behind.ensures state_orders c.requires.2 c.if-is_behind.true,
-      c.loop-low.invariant.3,
-    )
+  omega arith,
+  search rules,
+  seek_up listing a.s a.n (table_of a.words.now) (fits_table a.words.now a.n (omega arith)) _ _ _ (omega arith)
+      refl c.is_behind.ensures state_orders c.requires.2 c.if-is_behind.true,
+  c.loop-low.invariant.3,
+)
 
 pub loop-low-preserved : goal.loop-low-preserved
 loop-low-preserved c = let a = c.args in (
-      omega arith,
-      omega arith,
-      c.loop-low.invariant.2,
-      seek_down listing a.s a.n (table_of a.words.now) (fits_table a.words.now a.n (omega arith)) _ _ _ (omega arith)
-          refl c.is_behind.ensures c.if-is_behind.false,
-    )
+  omega arith,
+  omega arith,
+  c.loop-low.invariant.2,
+  seek_down listing a.s a.n (table_of a.words.now) (fits_table a.words.now a.n (omega arith)) _ _ _ (omega arith)
+      refl c.is_behind.ensures c.if-is_behind.false,
+)
 
 pub returns : goal.returns
 returns c = let a = c.args in

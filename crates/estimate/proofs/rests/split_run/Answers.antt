@@ -1,7 +1,7 @@
 -- `split_run` takes the states one by one.
 use mathlib.Core.Path.{◌≡◌, refl, sym, ap, ◌∙◌}
 use mathlib.Core.List.{map}
-use Prim.Native.Nat.{◌+◌, ◌-◌, ◌*◌, ◌/◌, ◌%◌, ◌≤◌, ◌<◌}
+use Prim.Native.Nat.{◌+◌, ◌*◌, ◌/◌, ◌%◌, ◌≤◌, ◌<◌}
 use native.Mathlib.Nat.{le_trans, mod-le, min-le_left}
 use native.Mathlib.Omega.{arith}
 use lib.ListN.{length, get_or, take, drop, length-take, length-set}
@@ -14,7 +14,7 @@ use Rattle.words.proofs.Tables.{fits_table, row_at}
 use Rattle.tables.proofs.Reading.{states_read}
 use Rattle.tables.proofs.Scratch.{scratch_more, scratch_rising, scratch_stays, slot_reads, stretch_long}
 use Rattle.estimate.specs.Splitting.{rest_in}
-use Rattle.estimate.proofs.Adding.{added, added_none, added_rising, added_few, made_next, made_all}
+use Rattle.estimate.proofs.Adding.{added_none, added_rising, added_few, made_next, made_all}
 use Rattle.estimate.proofs.LeftOver.{rest_put, sum_next, sum_to, sum_all, part_done, part_kept, parts_same}
 use Rattle.estimate.proofs.RunListing.{state_there}
 use Rattle.estimate.proofs.Runs.{state_has}

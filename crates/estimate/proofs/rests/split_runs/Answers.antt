@@ -1,7 +1,7 @@
 -- `split_runs` takes the heads one by one.
 use mathlib.Core.Path.{◌≡◌, refl, sym, ◌∙◌, subst}
 use mathlib.Core.List.{List}
-use Prim.Native.Nat.{◌+◌, ◌-◌, ◌≤◌, ◌<◌}
+use Prim.Native.Nat.{◌+◌, ◌≤◌, ◌<◌}
 use native.Mathlib.Omega.{arith}
 use lib.ListN.{length, get_or, take, drop}
 use lib.Seq.{get_or-take, take_all, length-take-le}
@@ -92,5 +92,9 @@ pub returns : goal.returns
 returns c = let a = c.args in let l = c.loop-i in
     let T = take a.m (drop a.from (table_of a.work.now)) in
     let hs = take a.count a.heads.now in
-    let short : length hs ≤ l.i = omega (arith, l.invariant.0, c.loop-i-test.false, length-take-le a.count a.heads.now c.requires.5) in record { in_scratch = rw (← rests_all T hs a.ways a.x c.requires.8 l.i short (alone a.ways a.x)) l.invariant.3; left_value = l.invariant.4 ∙ left_all T hs a.ways a.x c.requires.8 l.i short (left_over a.ways a.x); every = subst (Every (SplitIn a.ways a.x T l.parts)) (take_all l.i hs short)
-            (every_weaker (λ g. (start_in g + length_in g ≤ a.m) × SplitIn a.ways a.x T l.parts g) (SplitIn a.ways a.x T l.parts) (λ g q. q.1) (take l.i hs) l.invariant.5) }
+    let short : length hs ≤ l.i = omega (arith, l.invariant.0, c.loop-i-test.false, length-take-le a.count a.heads.now c.requires.5) in record {
+      in_scratch = rw (← rests_all T hs a.ways a.x c.requires.8 l.i short (alone a.ways a.x)) l.invariant.3;
+      left_value = l.invariant.4 ∙ left_all T hs a.ways a.x c.requires.8 l.i short (left_over a.ways a.x);
+      every = subst (Every (SplitIn a.ways a.x T l.parts)) (take_all l.i hs short)
+          (every_weaker (λ g. (start_in g + length_in g ≤ a.m) × SplitIn a.ways a.x T l.parts g) (SplitIn a.ways a.x T l.parts) (λ g q. q.1) (take l.i hs) l.invariant.5);
+    }

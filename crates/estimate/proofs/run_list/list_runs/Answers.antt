@@ -1,6 +1,5 @@
 -- `list_runs` finds one run after the other, and puts its head among those of the runs before it.
 use mathlib.Core.Path.{sym, ap, ◌∙◌}
-use Prim.Native.Nat.{◌-◌}
 use native.Mathlib.Omega.{arith}
 use Rattle.rules.specs.declared.State.{State}
 use Rattle.words.specs.Tables.{table_of}

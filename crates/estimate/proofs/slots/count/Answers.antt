@@ -1,6 +1,6 @@
 -- `count` goes through the slot.
 use mathlib.Core.Path.{sym, ap, ◌∙◌}
-use Prim.Native.Nat.{◌+◌, ◌-◌}
+use Prim.Native.Nat.{◌+◌}
 use native.Mathlib.Omega.{arith}
 use Rattle.rules.specs.Table.{units_of, listing}
 use Rattle.words.specs.Tables.{table_of}

@@ -1,6 +1,5 @@
 -- `agree_others` asks one predecessor after the other.
 use mathlib.Core.Path.{refl, sym, ◌∙◌}
-use Prim.Native.Nat.{◌-◌}
 use native.Mathlib.Omega.{arith}
 use lib.ListN.{get_or}
 use Rattle.tables.proofs.Edges.{into_here, into_none, found}

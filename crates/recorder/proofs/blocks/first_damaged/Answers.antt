@@ -1,6 +1,5 @@
 -- `first_damaged` meets its contract.
 use mathlib.Core.Path.{refl, sym, ◌∙◌}
-use Prim.Native.Nat.{◌-◌}
 use borrow.Author.Rules.{rules}
 use Rattle.recorder.specs.Traces.{damaged_places}
 use Rattle.recorder.proofs.Traces.{lent_judged, sound_next, first_here, none_here}

@@ -1,6 +1,5 @@
 -- `copy_all` meets its contract.
 use mathlib.Core.Path.{refl}
-use Prim.Native.Nat.{◌-◌}
 use borrow.Author.Rules.{rules}
 use Rattle.recorder.specs.Traces.{said_at, said, damaged_places}
 use Rattle.recorder.proofs.Traces.{front_next, gathered_end}

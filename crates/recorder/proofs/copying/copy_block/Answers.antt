@@ -1,6 +1,5 @@
 -- `copy_block` meets its contract.
 use mathlib.Core.Path.{refl, sym, ◌∙◌}
-use Prim.Native.Nat.{◌-◌}
 use native.Mathlib.Omega.{arith}
 use borrow.Author.Rules.{rules}
 use Rattle.trace_blocks.proofs.AnyBytes.{counted_block, access_there}

@@ -1,7 +1,7 @@
 -- `write_all` meets its contract. The invariant of its loop: the blocks so far, with those of the accesses that are left, are the whole trace.
 use mathlib.Core.Path.{◌≡◌}
 use mathlib.Core.List.{◌++◌}
-use Prim.Native.Nat.{◌+◌, ◌-◌, ◌*◌, ◌≤◌}
+use Prim.Native.Nat.{◌-◌, ◌*◌, ◌≤◌}
 use lib.ListN.{length, take, drop}
 use Rattle.recorder.specs.Written.{blocks_for, trace_from, trace_of}
 use Rattle.recorder.proofs.packing.write_all.Given as goal

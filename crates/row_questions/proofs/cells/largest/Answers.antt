@@ -1,5 +1,4 @@
 -- `largest` meets its contract.
-use Prim.Native.Nat.{◌-◌}
 use native.Mathlib.Nat.{zero-max}
 use native.Mathlib.Numerals.{add-one}
 use borrow.Author.Rules.{rules}

@@ -1,6 +1,5 @@
 -- `least` goes on one by one where `least_by_four` ends, with the same invariant.
 use mathlib.Core.Path.{◌≡◌, refl, ap}
-use Prim.Native.Nat.{◌-◌}
 use native.Mathlib.Omega.{arith}
 use borrow.Author.Rules.{rules}
 use Rattle.rules.specs.Table.{units_of}
@@ -19,7 +18,7 @@ loop-i-preserved c =
     let one = fewest_one t l.i _ _ refl (ap units_of c.load.ensures) in (
       search rules,
       elim c.if-u-units.branch [
-        then-u-units w ↦ rw (w.units-is, w.from-is) (lowest_less t _ _ _ _ _ l.invariant.1 one w.if-u-units.true)
+        | then-u-units w ↦ rw (w.units-is, w.from-is) (lowest_less t _ _ _ _ _ l.invariant.1 one w.if-u-units.true)
         | else-u-units w ↦ rw (w.units-is, w.from-is) (lowest_more t _ _ _ _ _ l.invariant.1 one w.if-u-units.false)
       ],
     )

@@ -1,6 +1,5 @@
 -- `least_by_four` goes on by four states while there are as many.
 use mathlib.Core.Path.{ap}
-use Prim.Native.Nat.{◌-◌}
 use borrow.Author.Rules.{rules}
 use Rattle.rules.specs.Table.{units_of}
 use Rattle.words.specs.Tables.{table_of}
@@ -17,7 +16,7 @@ loop-i-preserved c =
     let t = table_of c.args.words.now in (
       search rules,
       elim c.if-u-units.branch [
-        then-u-units w ↦ rw (w.units-is, w.from-is) (lowest_less t _ _ _ _ _ l.invariant.1 c.least_of_four-u.ensures w.if-u-units.true)
+        | then-u-units w ↦ rw (w.units-is, w.from-is) (lowest_less t _ _ _ _ _ l.invariant.1 c.least_of_four-u.ensures w.if-u-units.true)
         | else-u-units w ↦ rw (w.units-is, w.from-is) (lowest_more t _ _ _ _ _ l.invariant.1 c.least_of_four-u.ensures w.if-u-units.false)
       ],
     )

@@ -1,9 +1,8 @@
 -- `first_holder` goes on from the first state that has the mask.
 use mathlib.Core.Path.{◌≡◌, refl, sym, ◌∙◌}
-use Prim.Native.Nat.{◌-◌}
 use native.Mathlib.Omega.{arith}
 use borrow.Author.Rules.{rules}
-use Rattle.searches.specs.Searches.{is_holder, first_holder}
+use Rattle.searches.specs.Searches.{first_holder}
 use Rattle.searches.proofs.Seeking.{first_here, first_on, first_none}
 use Rattle.searches.proofs.partner.first_holder.Goals as goal
 
@@ -16,11 +15,10 @@ returns-then-is_holder c =
     sym (first_here _ c.loop-j.j c.loop-j-test.true _ (sym c.is_holder.ensures ∙ c.if-is_holder.true)) ∙ c.loop-j.invariant.0
 
 pub loop-j-preserved : goal.loop-j-preserved
-loop-j-preserved c =
-    (
-      sym (first_on _ c.loop-j.j c.loop-j-test.true _ (sym c.is_holder.ensures ∙ c.if-is_holder.false)) ∙ c.loop-j.invariant.0,
-      search rules,
-    )
+loop-j-preserved c = (
+  sym (first_on _ c.loop-j.j c.loop-j-test.true _ (sym c.is_holder.ensures ∙ c.if-is_holder.false)) ∙ c.loop-j.invariant.0,
+  search rules,
+)
 
 pub returns : goal.returns
 returns c =

@@ -1,7 +1,6 @@
 -- `nearest_holder` goes through the places behind the first.
 use mathlib.Core.Path.{refl, sym, ap, ◌∙◌}
 use mathlib.Core.Bool.{true, false}
-use Prim.Native.Nat.{◌-◌}
 use native.Mathlib.Numerals.{add-one}
 use borrow.Author.Rules.{rules}
 use Rattle.rules.specs.Table.{state_at}
@@ -32,7 +31,7 @@ loop-j-preserved c =
     let on = until_on a.n c.loop-j.j c.loop-j-test.true (is_nearer a.n t a.s a.at) (λ k. none_nearer (apart a.s (state_at t k))) c.loop-j.found (ap none_nearer (sym i.1) ∙ sym c.none_nearer.ensures ∙ c.if-none_nearer.false) in
     let said = c.is_nearer.ensures in
     elim c.if-is_nearer.branch [
-      then-is_nearer w ↦ (rw w.found-is (sym (on true (rw (← i.1) (sym said ∙ w.if-is_nearer.true))) ∙ i.0), rw (w.found-is, w.near-is) (w.apart-near-then-is_nearer.ensures ∙ ap (apart a.s) w.load-then-is_nearer.ensures), search rules)
+      | then-is_nearer w ↦ (rw w.found-is (sym (on true (rw (← i.1) (sym said ∙ w.if-is_nearer.true))) ∙ i.0), rw (w.found-is, w.near-is) (w.apart-near-then-is_nearer.ensures ∙ ap (apart a.s) w.load-then-is_nearer.ensures), search rules)
       | else-is_nearer w ↦ (rw w.found-is (sym (on false (rw (← i.1) (sym said ∙ w.if-is_nearer.false))) ∙ i.0), rw (w.found-is, w.near-is) i.1, search rules)
     ]
 

@@ -1,7 +1,6 @@
 -- `nearest_of_all` searches place by place.
 use mathlib.Core.Path.{refl, sym, ap, ap₂, ◌∙◌}
 use mathlib.Core.Bool.{true, false}
-use Prim.Native.Nat.{◌-◌}
 use native.Mathlib.Numerals.{add-one}
 use borrow.Author.Rules.{rules}
 use Rattle.rules.specs.Table.{state_at}
@@ -39,7 +38,7 @@ loop-j-preserved c =
     (sym (c.is_unbeaten.ensures ∙ ap₂ (unbeaten a.bound) i.1 i.2) ∙ c.if-is_unbeaten.false) in
     let said = c.is_closer.ensures in
     elim c.if-is_closer.branch [
-      then-is_closer w ↦ (
+      | then-is_closer w ↦ (
         rw w.partner-is (sym (on true (rw (← i.1, ← i.2) (sym said ∙ w.if-is_closer.true))) ∙ i.0),
         rw (w.partner-is, w.most-is) (w.sharing-most-then-is_closer.ensures ∙ ap (sharing a.s) w.load-t.ensures),
         rw (w.partner-is, w.near-is) (w.apart-near-then-is_closer.ensures ∙ ap (apart a.s) w.load-t.ensures),

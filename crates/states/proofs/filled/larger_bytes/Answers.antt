@@ -1,5 +1,5 @@
 -- `larger_bytes` makes the word byte by byte.
-use Rattle.std.proofs.Common.{◌-◌, ◌<◌, refl, arith, lit<, rules}
+use Rattle.std.proofs.Common.{◌-◌, refl, arith, lit<, rules}
 use Rattle.states.proofs.Numbers.{word_fits, byte_small, bytes_short, bytes_next, bytes_end}
 use Rattle.states.proofs.filled.larger_bytes.Goals as goal
 

@@ -1,5 +1,5 @@
 -- `word_of` makes the word number by number.
-use Rattle.std.proofs.Common.{◌-◌, ◌<◌, refl, arith, lit<, rules}
+use Rattle.std.proofs.Common.{refl, arith, lit<, rules}
 use Rattle.states.proofs.Numbers.{word_fits, number_small, word_short, word_next, word_end}
 use Rattle.states.proofs.filled.word_of.Goals as goal
 

@@ -1,6 +1,5 @@
 -- `move_rows` goes through the rows.
 use mathlib.Core.Path.{refl}
-use Prim.Native.Nat.{◌-◌}
 use native.Mathlib.Omega.{arith}
 use borrow.Author.Rules.{rules}
 use Rattle.tight.proofs.RowsMoved.{moved_start, all_moved, next_ready, moved_next}

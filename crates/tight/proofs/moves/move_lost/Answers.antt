@@ -1,6 +1,5 @@
 -- `move_lost` goes through the 16 places.
 use mathlib.Core.Path.{refl}
-use Prim.Native.Nat.{◌-◌}
 use native.Mathlib.Omega.{arith}
 use borrow.Author.Rules.{rules}
 use Rattle.tight.proofs.Moving.{came_from_none, came_onward, came_movable, came_in_all}

@@ -1,6 +1,5 @@
 -- `add_row` adds word by word.
 use mathlib.Core.Path.{refl}
-use Prim.Native.Nat.{◌-◌}
 use native.Mathlib.Omega.{arith}
 use borrow.Author.Rules.{rules}
 use Rattle.tight_rows.specs.Rows.{with_row}

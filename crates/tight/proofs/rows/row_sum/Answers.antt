@@ -1,6 +1,5 @@
 -- `row_sum` adds word by word.
 use mathlib.Core.Path.{◌≡◌, refl}
-use Prim.Native.Nat.{◌-◌}
 use native.Mathlib.Omega.{arith}
 use borrow.Author.Rules.{rules}
 use Rattle.tight_rows.specs.Room.{words_of}

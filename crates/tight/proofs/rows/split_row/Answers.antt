@@ -1,6 +1,5 @@
 -- `split_row` splits word by word.
 use mathlib.Core.Path.{◌≡◌, refl}
-use Prim.Native.Nat.{◌-◌}
 use native.Mathlib.Omega.{arith}
 use borrow.Author.Rules.{rules}
 use Rattle.tight_rows.proofs.Adding.{left_fits, two_places, split_more, split_nothing}

@@ -1,6 +1,5 @@
 -- `select_losing` writes word by word.
 use mathlib.Core.Path.{refl}
-use Prim.Native.Nat.{◌-◌}
 use native.Mathlib.Omega.{arith}
 use borrow.Author.Rules.{rules}
 use Rattle.tight.specs.Selecting.{chosen, loses_at}

@@ -1,6 +1,5 @@
 -- `split_rows` goes row by row.
 use mathlib.Core.Path.{refl}
-use Prim.Native.Nat.{◌-◌}
 use native.Mathlib.Omega.{arith}
 use borrow.Author.Rules.{rules}
 use Rattle.tight.proofs.RowsSplit.{shared_start, all_shared, row_within, may_split, shared_next}

@@ -1,6 +1,5 @@
 -- `put_groups` goes cell by cell.
 use mathlib.Core.Path.{refl}
-use Prim.Native.Nat.{◌-◌}
 use native.Mathlib.Omega.{arith}
 use borrow.Author.Rules.{rules}
 use Rattle.tight.proofs.ColumnsCounted.{grouped_start, all_grouped, grouped_next}

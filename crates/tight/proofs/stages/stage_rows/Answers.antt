@@ -1,6 +1,5 @@
 -- `stage_rows` goes through the rows.
 use mathlib.Core.Path.{refl}
-use Prim.Native.Nat.{◌-◌}
 use native.Mathlib.Omega.{arith}
 use borrow.Author.Rules.{rules}
 use Rattle.tight.proofs.ColumnsCounted.{counted_start, all_counted, still_counting, fits_next, counted_next}

@@ -1,6 +1,5 @@
 -- `sum_lost` goes through the 16 places.
 use mathlib.Core.Path.{refl}
-use Prim.Native.Nat.{◌-◌}
 use native.Mathlib.Omega.{arith}
 use borrow.Author.Rules.{rules}
 use Rattle.tight.proofs.Summing.{lost_from_none, lost_onward, lost_in_all, lost_fits}

@@ -1,6 +1,5 @@
 -- `sum_rows` goes through the rows.
 use mathlib.Core.Path.{refl}
-use Prim.Native.Nat.{◌-◌}
 use native.Mathlib.Omega.{arith}
 use borrow.Author.Rules.{rules}
 use Rattle.tight.proofs.RowsSummed.{summed_start, all_summed, still_sending, may_sum, summed_next}

@@ -1,6 +1,6 @@
 -- `copy_down` copies word by word.
 use mathlib.Core.Path.{refl}
-use Prim.Native.Nat.{◌+◌, ◌-◌}
+use Prim.Native.Nat.{◌+◌}
 use native.Mathlib.Omega.{arith}
 use borrow.Author.Rules.{rules}
 use Rattle.tight_rows.proofs.Writing.{none_written, all_written}

@@ -1,6 +1,6 @@
 -- `find_bottom` goes up column by column.
 use mathlib.Core.Path.{refl, sym, ◌∙◌}
-use Prim.Native.Nat.{suc, ◌-◌}
+use Prim.Native.Nat.{suc}
 use native.Mathlib.Omega.{arith}
 use Rattle.tight_ends.proofs.EndsFound.{staging_part, bottoming_start, bottoming_next, bottoming_stop, bottoming_end}
 use Rattle.tight_ends.proofs.ends.find_bottom.Goals as goal

@@ -1,5 +1,4 @@
 -- `find_top` goes down column by column. The invariant of its loop: what is beyond may leave.
-use Prim.Native.Nat.{◌-◌}
 use Rattle.tight_rows.specs.Room.{words_of}
 use Rattle.tight_ends.specs.Stage.{groups_of}
 use Rattle.tight_ends.specs.Settling.{both}

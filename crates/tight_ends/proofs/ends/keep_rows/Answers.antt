@@ -1,6 +1,5 @@
 -- `keep_rows` goes row by row.
 use mathlib.Core.Path.{◌≡◌, refl}
-use Prim.Native.Nat.{◌-◌}
 use native.Mathlib.Omega.{arith}
 use borrow.Author.Rules.{rules}
 use Rattle.tight_ends.proofs.RowsKept.{kept_start, may_keep, kept_next}

@@ -1,6 +1,5 @@
 -- `filled_to` goes cell by cell.
 use mathlib.Core.Path.{◌≡◌, refl}
-use Prim.Native.Nat.{◌-◌}
 use native.Mathlib.Omega.{arith}
 use borrow.Author.Rules.{rules}
 use Rattle.tight_ends.specs.Settling.{filled_to}

@@ -1,6 +1,5 @@
 -- `put_all_filled` goes cell by cell.
 use mathlib.Core.Path.{◌≡◌, refl}
-use Prim.Native.Nat.{◌-◌}
 use native.Mathlib.Omega.{arith}
 use borrow.Author.Rules.{rules}
 use Rattle.tight_ends.proofs.FilledPut.{all_start, all_next}

@@ -1,6 +1,5 @@
 -- `meet_pairs` goes pair by pair.
 use mathlib.Core.Path.{refl}
-use Prim.Native.Nat.{◌-◌}
 use native.Mathlib.Omega.{arith}
 use borrow.Author.Rules.{rules}
 use Rattle.tight_joins.proofs.PairsMet.{none_met, all_met, may_meet_next, met_next}

@@ -1,6 +1,6 @@
 -- `meet_rows` adds cell by cell.
 use mathlib.Core.Path.{refl}
-use Prim.Native.Nat.{◌+◌, ◌-◌}
+use Prim.Native.Nat.{◌+◌}
 use native.Mathlib.Omega.{arith}
 use borrow.Author.Rules.{rules}
 use Rattle.tight_joins.specs.Meeting.{met_at}

@@ -1,6 +1,5 @@
 -- `sum_pairs` goes pair by pair.
 use mathlib.Core.Path.{refl}
-use Prim.Native.Nat.{◌-◌}
 use native.Mathlib.Omega.{arith}
 use borrow.Author.Rules.{rules}
 use Rattle.tight_joins.proofs.PairsMet.{no_sums, may_sum, sums_next, all_summed}

@@ -1,6 +1,5 @@
 -- `step_rows` goes row by row.
 use mathlib.Core.Path.{refl}
-use Prim.Native.Nat.{◌-◌}
 use native.Mathlib.Omega.{arith}
 use borrow.Author.Rules.{rules}
 use Rattle.tight_joins.specs.Piling.{stepped}

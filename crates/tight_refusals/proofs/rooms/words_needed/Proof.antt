@@ -1,7 +1,7 @@
 -- `words_needed` meets its contract: it adds up the parts, none of which is large.
 use borrow.Author.Rules.{rules}
 use native.Mathlib.Omega.{arith}
-use Prim.Native.Nat.{ℕ, ◌+◌, ◌*◌, ◌≤◌}
+use Prim.Native.Nat.{◌+◌, ◌*◌, ◌≤◌}
 use lib.ListN.{length}
 use Rattle.rules.specs.declared.Start.TheVariants.{Cold}
 use Rattle.rules.specs.Input.{cache, edges_of}

@@ -1,5 +1,5 @@
 -- `count_rows` goes through the masks.
-use Rattle.std.proofs.Common.{◌≡◌, ◌+◌, ◌-◌, refl, arith, rules}
+use Rattle.std.proofs.Common.{◌≡◌, ◌+◌, refl, arith, rules}
 use Rattle.tight_rows.specs.Room.{words_of}
 use Rattle.tight_rows.specs.Numbers.{sum_in, rank_of}
 use Rattle.tight_rows.proofs.MasksNumbered.{rank_next, rank_most}

@@ -1,5 +1,5 @@
 -- `number_masks` goes mask by mask.
-use Rattle.std.proofs.Common.{◌-◌, refl, arith, rules}
+use Rattle.std.proofs.Common.{refl, arith, rules}
 use Rattle.tight_rows.proofs.MasksNumbered.{numbered_start, may_open, numbered_next, all_numbered}
 use Rattle.tight_rows.proofs.opens.number_masks.Goals as goal
 

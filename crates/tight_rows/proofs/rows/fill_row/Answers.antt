@@ -1,5 +1,5 @@
 -- `fill_row` writes word by word, as far as there are words.
-use Rattle.std.proofs.Common.{◌-◌, refl, arith, rules}
+use Rattle.std.proofs.Common.{refl, arith, rules}
 use Rattle.tight_rows.proofs.Writing.{none_written, one_more_lem, all_written, as_far}
 use Rattle.tight_rows.proofs.rows.fill_row.Goals as goal
 

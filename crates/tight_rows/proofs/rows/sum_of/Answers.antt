@@ -1,5 +1,5 @@
 -- `sum_of` adds word by word, as far as there are words.
-use Rattle.std.proofs.Common.{◌≡◌, ◌+◌, ◌-◌, ◌%◌, ◌^◌, refl, ap, ◌∙◌, arith, rules}
+use Rattle.std.proofs.Common.{◌≡◌, ◌+◌, ◌%◌, ◌^◌, refl, ap, ◌∙◌, arith, rules}
 use Rattle.tight_rows.specs.Room.{words_of}
 use Rattle.tight_rows.proofs.Totals.{sum_there, wrapped_next}
 use Rattle.tight_rows.proofs.rows.sum_of.Goals as goal

@@ -40,8 +40,7 @@ add-add-cells c = omega (arith, inside c.before)
 
 add-cells-requires : tie.Need-add_cells-requires invariant-loop decreases-loop
 add-cells-requires c κs =
-    let l = c.loop-k in
-    (
+    let l = c.loop-k in (
       omega (arith, l.invariant.1, c.requires.0.room),
       omega (arith, inside c.before, c.requires.0.neat.narrow),
       cell_fits (grid c.before.before.before.before.before.before.before.before) l.k c.args.res.now l.res l.invariant.2 c.loop-k-test.true c.requires.0.room (omega (arith, c.requires.0.full)),

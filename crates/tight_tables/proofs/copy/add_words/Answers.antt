@@ -1,6 +1,5 @@
 -- `add_words` adds word by word.
 use mathlib.Core.Path.{refl}
-use Prim.Native.Nat.{◌-◌}
 use native.Mathlib.Omega.{arith}
 use borrow.Author.Rules.{rules}
 use Rattle.tight_tables.specs.Copying.{words_more}

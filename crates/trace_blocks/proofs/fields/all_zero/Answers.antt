@@ -1,6 +1,5 @@
 -- `all_zero` meets its contract.
 use mathlib.Core.Path.{refl}
-use Prim.Native.Nat.{◌-◌}
 use Rattle.trace_blocks.proofs.Bytes.{zero_next, zero_not, zero_end}
 use Rattle.trace_blocks.proofs.fields.all_zero.Goals as goal
 

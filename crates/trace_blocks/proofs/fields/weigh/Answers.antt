@@ -1,5 +1,4 @@
 -- `weigh` meets its contract.
-use Prim.Native.Nat.{◌-◌}
 use native.Mathlib.Nat.{zero-add}
 use borrow.Author.Rules.{rules}
 use Rattle.trace_blocks.proofs.Bytes.{weighed_next, weighed_end}

@@ -1,5 +1,4 @@
 -- `all_cases` is safe and ends: each turn reads one line, and the room keeps its length.
-use Prim.Native.Nat.{◌-◌}
 use native.Mathlib.Omega.{arith}
 use Rattle.worked.proofs.cases.all_cases.Goals as goal
 

@@ -1,5 +1,4 @@
 -- `fill_bytes` is safe and ends: each turn writes one byte, and the room keeps its length.
-use Prim.Native.Nat.{◌-◌}
 use lib.ListN.{length-set}
 use native.Mathlib.Omega.{arith}
 use Rattle.worked_apart.proofs.recorded.fill_bytes.Goals as goal

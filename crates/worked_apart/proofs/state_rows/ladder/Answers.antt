@@ -1,5 +1,4 @@
 -- `ladder` is safe and ends: each turn writes one state, and a state's three words lie within the words.
-use Prim.Native.Nat.{◌-◌}
 use native.Mathlib.Omega.{arith}
 use lib.ListN.{length-set}
 use Rattle.worked_apart.proofs.state_rows.ladder.Goals as goal
