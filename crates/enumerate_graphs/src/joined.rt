@@ -1,5 +1,5 @@
 // A graph whose first join is by a random pairing (see pairs.rt), held to every path's choice sequences as it is without one.
-use crate::calls::paired;
+use crate::paired_call::paired;
 use crate::pairs::{first_join, pair_all, units_of_node};
 use examined::examine::examine_answer;
 use examined::report::Report;

@@ -7,9 +7,9 @@
 use crate::graphs::all_graphs;
 use examined::report::{nothing_yet, say_all};
 
-mod calls;
 mod graphs;
 mod joined;
+mod paired_call;
 mod pairs;
 mod sweep;
 

@@ -1,7 +1,7 @@
 // Random pairings that are accepted (document 02, request 11/13). The first join of a graph is handed one, the others none, and the finished table is held to every path and
 // budget. Before the first join there is one path to a node, so that the join's two tables are those of straight runs; states that have units left are taken
 // at random, and some or all of the units that both have.
-use examined::calls::worst;
+use examined::row_calls::worst;
 use rules::Outcome;
 use sequences::input::{edges_of, nodes_of};
 use sequences::numbers::{digit, less, plus, read, times};

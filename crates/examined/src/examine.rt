@@ -1,8 +1,8 @@
 // One graph, one state limit: the graph call is made, and its table held to every path's choice sequences.
-use crate::calls::{longest, surest, worst};
 use crate::cycles::hold_cycles;
 use crate::promises::{Path, Told, hold_above, hold_exact};
 use crate::report::Report;
+use crate::row_calls::{longest, surest, worst};
 use crate::sure::{hold_best, number_of, states_of};
 use crate::table::total;
 use rules::{Outcome, Start, Units};

@@ -15,11 +15,11 @@
 // From a used cache only the share of the sequences with more misses, or cycles, is held to the units: that is all that is promised then.
 #![tactic(auto)]
 
-pub mod calls;
 mod cores;
 mod cycles;
 pub mod examine;
 mod promises;
 pub mod report;
+pub mod row_calls;
 mod sure;
 mod table;
