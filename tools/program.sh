@@ -79,7 +79,7 @@ answer_all() {
         esac
     done
     . "$(dirname "${BASH_SOURCE[0]}")/kit.sh"
-    build "the $name program" "bin/$name" check "$name"
+    build_program "$name"
     written=$(mktemp) refused=0
     trap 'rm -f "$written"' EXIT
     [ $# -gt 0 ] || set -- -
