@@ -13,9 +13,9 @@
  * the graph call, 712 for the best case, 3,944 for a curve's text, 3,864 for a listing 8 deep, 5,704 for a question put to a row of states and 6,056 for the deepest, the nightly
  * build, on each of the large inputs that were tried.
  *
- * Linked from libestimate_c.a, for x86-64, which takes of the C library only memcpy and memset. `rt staticlib estimate_c` makes it:
+ * Linked from libestimate_c.a, for x86-64, which takes of the C library only memcpy and memset. `rt lib` in crates/estimate_c makes it:
  *
- *     cc -Iinclude program.c target/staticlib/libestimate_c.a -o program */
+ *     cc -Iinclude program.c crates/estimate_c/out/libestimate_c.a -o program */
 #ifndef ESTIMATE_H
 #define ESTIMATE_H
 
