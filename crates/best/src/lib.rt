@@ -21,7 +21,7 @@ mod placing;
 mod run;
 mod slots;
 
-// The best case's call: the finished table goes to `result`, five words a state, and `work` is used on the way.
+// The best case's call: the finished table goes to `res`, five words a state, and `work` is used on the way.
 pub fn analyse_best(
     sets: u32,
     ways: u32,

@@ -3,8 +3,7 @@
 #![tactic(auto)]
 
 use front::write_front;
-use std::env;
-use std::io::ErrorKind;
+use std::env::{Env, FillError};
 use text::{curve_of_chosen_text, cycles_of_chosen_text};
 use writing::Written;
 
@@ -55,11 +54,13 @@ fn with_output(input: &[u8]) {
 }
 
 // What the program's argument asks for: nothing, or the word `cycles`.
-fn tell(input: &[u8], word: Option<String>) {
-    match word {
-        None => write_curve(input),
-        Some(w) => {
-            if w.as_str() == "cycles" {
+fn tell<R: Env>(rt: &R, input: &[u8]) {
+    let mut word: [u8; 7] = [0; 7];
+    match rt.arg(1, &mut word) {
+        Err(FillError::NotPresent) => write_curve(input),
+        Err(FillError::TooLong) => refuse_word(),
+        Ok(n) => {
+            if check::same(&word[..n], b"cycles") {
                 with_output(input);
             } else {
                 refuse_word();
@@ -73,21 +74,9 @@ fn refuse_word() {
     io::write_all(2, b"chosen: the only argument is the word cycles\n");
 }
 
-// One byte more than a text may have is read, so that a longer one is seen to be too long. An argument that is no text is refused as any other word is.
-fn main(rt: HostRuntime) -> std::io::Result<()> {
+// One byte more than a text may have is read, so that a longer one is seen to be too long.
+fn main(rt: HostRuntime) {
     let mut input: [u8; 65537] = [0; 65537];
     let n = io::read_full(0, &mut input);
-    match env::args(&rt) {
-        Ok(mut words) => {
-            let _program = words.next();
-            tell(&input[..n], words.next());
-        }
-        Err(e) => {
-            if e.kind() != ErrorKind::InvalidData {
-                return Err(e);
-            }
-            refuse_word();
-        }
-    }
-    Ok(())
+    tell(&rt, &input[..n]);
 }

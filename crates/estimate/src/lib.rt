@@ -30,7 +30,7 @@ mod shares;
 mod slots;
 mod tally;
 
-// The graph call: the finished table goes to `result`, five words a state, and `work` is used on the way.
+// The graph call: the finished table goes to `res`, five words a state, and `work` is used on the way.
 pub fn analyse(
     cache: Cache,
     limit: u32,

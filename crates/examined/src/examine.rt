@@ -174,7 +174,7 @@ fn told_of(aside: Units, longest: u64) -> Told {
     }
 }
 
-// What a graph call answered and left in `result`, beside the best case's table.
+// What a graph call answered and left in `res`, beside the best case's table.
 pub fn examine_answer(
     answer: Outcome,
     res: &[u64],

@@ -29,7 +29,7 @@ pub(crate) fn work_graph(
     row
 }
 
-// The row of each graph, at the front of the rows, and the report on all of them; the finished table of each goes to `result` on the way.
+// The row of each graph, at the front of the rows, and the report on all of them; the finished table of each goes to `res` on the way.
 pub(crate) fn work_graphs(
     numbers: &[u32],
     allowance: u64,

@@ -47,7 +47,7 @@ fn budget_of(res: &[u64], states: usize, allowance: u64) -> u64
     }
 }
 
-// The row of a graph's numbers; the finished table goes to `result` on the way.
+// The row of a graph's numbers; the finished table goes to `res` on the way.
 pub(crate) fn row_of(numbers: &[u32], allowance: u64, res: &mut [u64], work: &mut [u64]) -> Row
     requires { (320 ≤ length res.old) × (25920 ≤ length work.old) }
     ensures { result ≡ row_of allowance numbers.now }

@@ -9,7 +9,7 @@ ghost use Rattle.tight_tables.specs.Answering.{column_to, Answerable, Zeros};
 
 use tight_rows::rows::clear_row;
 
-// The `width` cells of `result` from `to` on have the units of the row at `row` more.
+// The `width` cells of `res` from `to` on have the units of the row at `row` more.
 fn add_cells(res: &mut [u64], work: &[u64], row: usize, to: usize, width: usize)
     requires { (to + width ≤ length res.old) × (row + width ≤ length work.now) × ((j : ℕ) → j < width → words_of res.old (to + j) + words_of work.now (row + j) < 2 ^ 64) }
     ensures { Leaves (raised to width (λ j. words_of work.now (row + j))) res.old res.new }

@@ -3,8 +3,7 @@
 #![tactic(auto)]
 
 use front::write_front;
-use std::env;
-use std::io::ErrorKind;
+use std::env::{Env, FillError};
 use traces::{accesses_of_trace, damaged_of_trace};
 use writing::Written;
 
@@ -35,11 +34,13 @@ fn tell_damaged(trace: &[u8]) {
 }
 
 // What the program's argument asks for: nothing, or the word `damaged`.
-fn tell(trace: &[u8], word: Option<String>) {
-    match word {
-        None => with_output(trace),
-        Some(w) => {
-            if w.as_str() == "damaged" {
+fn tell<R: Env>(rt: &R, trace: &[u8]) {
+    let mut word: [u8; 8] = [0; 8];
+    match rt.arg(1, &mut word) {
+        Err(FillError::NotPresent) => with_output(trace),
+        Err(FillError::TooLong) => refuse_word(),
+        Ok(n) => {
+            if check::same(&word[..n], b"damaged") {
                 tell_damaged(trace);
             } else {
                 refuse_word();
@@ -53,26 +54,14 @@ fn refuse_word() {
     io::write_all(2, b"trace: the only argument is the word damaged\n");
 }
 
-// One block more than there is room for is read, so that a longer trace is refused and never cut. An argument that is no text is refused as any other word is.
-fn read_and_tell(rt: &HostRuntime, trace: &mut [u8]) -> std::io::Result<()> {
-    let n = io::read_full(0, trace);
-    match env::args(rt) {
-        Ok(mut words) => {
-            let _program = words.next();
-            tell(&trace[..n], words.next());
-        }
-        Err(e) => {
-            if e.kind() != ErrorKind::InvalidData {
-                return Err(e);
-            }
-            refuse_word();
-        }
-    }
-    Ok(())
+// What is read goes to `room`, and from there to the answer.
+fn read_and_tell<R: Env>(rt: &R, room: &mut [u8]) {
+    let n = io::read_full(0, room);
+    tell(rt, &room[..n]);
 }
 
-// The room for the trace has the size that is needed; it is in a function of its own as the room for the text is.
-fn main(rt: HostRuntime) -> std::io::Result<()> {
+// One block more than there is room for is read, so that a longer trace is refused and never cut.
+fn main(rt: HostRuntime) {
     let mut trace: [u8; 524800] = [0; 524800];
-    read_and_tell(&rt, &mut trace)
+    read_and_tell(&rt, &mut trace);
 }

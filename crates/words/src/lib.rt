@@ -60,7 +60,7 @@ fn carry(res: &mut [u64], work: &[u64], from: usize, n: usize)
     }
 }
 
-// Whether a room of `room` words has `n` words from word `from` on, and a result of `result` words has room for them.
+// Whether a room of `room` words has `n` words from word `from` on, and a result of `res` words has room for them.
 fn goes_over(res: usize, room: usize, from: usize, n: usize) -> bool
     ensures { result ≡ goes_over res room from n }
 {
