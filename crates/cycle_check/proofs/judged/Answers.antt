@@ -9,23 +9,23 @@ use Rattle.cycle_check.proofs.judged.Goals.{Else-longest-gt4096}
 
 -- past the first two checks the core is one in service, and the longest path is not too long
 known : (c : Else-longest-gt4096) → c.args.core < 12
-known c = omega (arith, c.if-core-ge12.false, c.if-longest-gt4096.false)
+known c = omega arith
 
 few : (c : Else-longest-gt4096) → c.args.longest ≤ 4096
-few c = omega (arith, c.if-core-ge12.false, c.if-longest-gt4096.false)
+few c = omega arith
 
 pub returns-then-core-ge12 : goal.returns-then-core-ge12
 unfolding cores
 returns-then-core-ge12 c =
-    let none : 12 ≤ c.args.core = omega (arith, c.if-core-ge12.true) in
+    let none : 12 ≤ c.args.core = omega arith in
     sym (no_core _ _ _ none)
 
 pub returns-then-longest-gt4096 : goal.returns-then-longest-gt4096
 unfolding cores
 returns-then-longest-gt4096 c =
     let a = c.args in
-    let one : a.core < 12 = omega (arith, c.if-core-ge12.false) in
-    let long : 4096 < a.longest = omega (arith, c.if-longest-gt4096.true) in
+    let one : a.core < 12 = omega arith in
+    let long : 4096 < a.longest = omega arith in
     sym (long_path _ _ _ one long)
 
 pub returns-then-not-is_table : goal.returns-then-not-is_table

@@ -14,7 +14,7 @@ pub returns-then-heads-last : goal.returns-then-heads-last
 returns-then-heads-last c = stays_open _ _ _ (omega (arith, c.if-last-at.false)) c.if-heads-last.true
 
 pub loop-other-init : goal.loop-other-init
-loop-other-init c = going_start _ _ _ (omega (arith, c.if-last-at.false)) (omega (arith, c.if-heads-last.false))
+loop-other-init c = going_start _ _ _ (omega (arith, c.if-last-at.false)) (omega arith)
 
 pub bounds-heads-j-in-loop-other : goal.bounds-heads-j-in-loop-other
 bounds-heads-j-in-loop-other c = omega (arith, c.loop-other.invariant.below)

@@ -20,4 +20,4 @@ returns-then-v-gt4294967295 c =
 
 pub returns : goal.returns
 returns c =
-    digit_more _ _ c.if-p-ge10.false (sym c.is_digit.ensures ∙ c.if-not-is_digit.false) (omega (arith, c.if-v-gt4294967295.false))
+    digit_more _ _ c.if-p-ge10.false (sym c.is_digit.ensures ∙ c.if-not-is_digit.false) (omega arith)

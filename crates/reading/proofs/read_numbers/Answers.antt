@@ -7,8 +7,8 @@ pub returns-then-numbers-lt16384 : goal.returns-then-numbers-lt16384
 returns-then-numbers-lt16384 c = short_room _ _ _ (omega (arith, c.if-numbers-lt16384.true)) c.clear_numbers.ensures
 
 pub returns-then-end : goal.returns-then-end
-returns-then-end c = all_read _ _ _ _ (omega (arith, c.if-numbers-lt16384.false)) c.scan-end.ensures c.if-end.true
+returns-then-end c = all_read _ _ _ _ (omega arith) c.scan-end.ensures c.if-end.true
 
 pub returns : goal.returns
 returns c =
-    nothing_read _ _ _ _ (omega (arith, c.if-numbers-lt16384.false)) c.scan-end.ensures c.if-end.false _ c.clear_numbers-2.ensures c.scan-end.auto.numbers
+    nothing_read _ _ _ _ (omega arith) c.scan-end.ensures c.if-end.false _ c.clear_numbers-2.ensures c.scan-end.auto.numbers

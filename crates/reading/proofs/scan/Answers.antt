@@ -15,4 +15,4 @@ loop-i-preserved c =
 
 pub returns : goal.returns
 returns c =
-    found _ _ c.requires (omega (arith, c.if-text-gt65536.false)) _ _ c.loop-i.invariant.2 c.loop-i-test.false _ c.end_number.ensures
+    found _ _ c.requires (omega arith) _ _ c.loop-i.invariant.2 c.loop-i-test.false _ c.end_number.ensures

@@ -1,4 +1,5 @@
 -- `choose` tests that there are two states and so many, and has them searched.
+use native.Mathlib.Omega.{arith}
 use mathlib.Core.Path.{◌∙◌}
 use Prim.Native.Nat.{◌≤◌, ◌<◌}
 use lib.ListN.{length}
@@ -7,17 +8,14 @@ use Rattle.words.specs.Tables.{table_of}
 use Rattle.words.proofs.Tables.{length_table_of}
 use Rattle.searches.proofs.choose.Goals as goal
 
-pub returns-then-n-lt2 : goal.returns-then-n-lt2
-returns-then-n-lt2 c = rw (lt-leb 2 _ c.if-n-lt2.true)
-
 pub returns-then-words-n : goal.returns-then-words-n
 returns-then-words-n c =
     let a = c.args in
     let few : length (table_of a.words.now) < a.n = rw (length_table_of a.words.now) c.if-words-n.true in
-    rw (le-leb 2 a.n c.if-n-lt2.false, lt-leb a.n (length (table_of a.words.now)) few)
+    rw (le-leb 2 a.n (omega arith), lt-leb a.n (length (table_of a.words.now)) few)
 
 pub returns : goal.returns
 returns c =
     let a = c.args in
     let room : a.n ≤ length (table_of a.words.now) = rw (length_table_of a.words.now) c.if-words-n.false in
-    c.search.ensures ∙ rw (le-leb 2 a.n c.if-n-lt2.false, le-leb a.n (length (table_of a.words.now)) room)
+    c.search.ensures ∙ rw (le-leb 2 a.n (omega arith), le-leb a.n (length (table_of a.words.now)) room)

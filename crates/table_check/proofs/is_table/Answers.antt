@@ -12,13 +12,13 @@ returns-then-n-gt64 c = too_many _ c.if-n-lt1.false (omega (arith, c.if-n-gt64.t
 
 pub returns-then-not-rising : goal.returns-then-not-rising
 returns-then-not-rising c =
-    not_rising _ c.if-n-lt1.false (omega (arith, c.if-n-gt64.false)) (sym c.rising.ensures ∙ c.if-not-rising.true)
+    not_rising _ c.if-n-lt1.false (omega arith) (sym c.rising.ensures ∙ c.if-not-rising.true)
 
 pub returns-then-not-all_fit : goal.returns-then-not-all_fit
 returns-then-not-all_fit c =
-    not_fitting _ c.if-n-lt1.false (omega (arith, c.if-n-gt64.false)) (sym c.rising.ensures ∙ c.if-not-rising.false) (sym c.all_fit.ensures ∙ c.if-not-all_fit.true)
+    not_fitting _ c.if-n-lt1.false (omega arith) (sym c.rising.ensures ∙ c.if-not-rising.false) (sym c.all_fit.ensures ∙ c.if-not-all_fit.true)
 
 pub returns : goal.returns
 returns c =
     c.is_whole.ensures
-    ∙ by_total _ c.if-n-lt1.false (omega (arith, c.if-n-gt64.false)) (sym c.rising.ensures ∙ c.if-not-rising.false) (sym c.all_fit.ensures ∙ c.if-not-all_fit.false)
+    ∙ by_total _ c.if-n-lt1.false (omega arith) (sym c.rising.ensures ∙ c.if-not-rising.false) (sym c.all_fit.ensures ∙ c.if-not-all_fit.false)

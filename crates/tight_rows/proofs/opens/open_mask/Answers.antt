@@ -1,5 +1,5 @@
 -- `open_mask` writes a number, or opens a row.
-use Rattle.std.proofs.Common.{refl}
+use Rattle.std.proofs.Common.{refl, arith}
 use Rattle.tight_rows.proofs.MasksNumbered.{opened_none, opened_some, row_left}
 use Rattle.tight_rows.proofs.opens.open_mask.Goals as goal
 
@@ -11,9 +11,9 @@ returns-then-units-eq0 c =
 pub open_row-requires : goal.open_row-requires
 open_row-requires c =
     let a = c.args in
-    (c.requires.0, c.requires.1, row_left a.o a.mask a.row a.work.now c.if-units-eq0.false c.requires.2)
+    (c.requires.0, c.requires.1, row_left a.o a.mask a.row a.work.now (omega arith) c.requires.2)
 
 pub returns : goal.returns
 returns c =
     let a = c.args in
-    opened_some a.o a.mask a.row a.work.now _ c.if-units-eq0.false c.open_row.ensures
+    opened_some a.o a.mask a.row a.work.now _ (omega arith) c.open_row.ensures
