@@ -1,6 +1,6 @@
 -- Facts about tests
 pub mod Bools
--- Through a list, and zeros
+-- Through a list
 pub mod Lists
 -- Sums over lists and over numbers
 pub mod Sums

@@ -1,10 +1,10 @@
--- Lists walked from the front, lists put flat, and lists of zeros.
-use mathlib.Core.Path.{◌≡◌, refl, sym, ◌∙◌}
-use mathlib.Core.List.{List, [], ◌∷◌, ◌++◌, flat_map, append-nil, append_assoc}
+-- Lists walked from the front, and lists put flat.
+use mathlib.Core.Path.{◌≡◌, refl, sym}
+use mathlib.Core.List.{List, [], ◌∷◌, ◌++◌, flat_map, append_assoc}
 use Prim.Native.Nat.{ℕ, ◌+◌, ◌≤◌, ◌<◌}
 use native.Mathlib.Numerals.{add-one}
-use lib.ListN.{length, get_or, drop, replicate, drop_of_length-le}
-use lib.Seq.{drop-cons, drop-length}
+use lib.ListN.{length, get_or, drop, drop_of_length-le}
+use lib.Seq.{drop-cons}
 
 -- what is computed of the rest at place i, w, is computed of the next element and the rest behind it
 module _ {A B : Type 0} (f : List B → A) (xs : List B) (i : ℕ) (w : A) (rest : f (drop i xs) ≡ w) where
@@ -20,7 +20,3 @@ pub flat_append : {A B : Type 0} (f : A → List B) (xs ys : List A) → flat_ma
 unfolding flat_map
 flat_append f [] ys = refl
 flat_append f (x ∷ xs) ys = rw (flat_append f xs ys) (sym (append_assoc (f x) (flat_map f xs) (flat_map f ys)))
-
--- zeros up to the end are all there is
-pub all_filled : (xs ws : List ℕ) (i : ℕ) → i ≡ length xs → ws ≡ replicate i 0 ++ drop i xs → ws ≡ replicate (length xs) 0
-all_filled xs ws i e p = p ∙ rw (e, drop-length xs, append-nil)

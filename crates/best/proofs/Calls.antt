@@ -1,4 +1,5 @@
 -- What a call leaves: the finished table is that of the last slot, and the answer goes with it.
+use Rattle.std.specs.Prelude.{Err, Ok}
 use mathlib.Core.Path.{◌≡◌, refl, sym, ap, ◌∙◌}
 use mathlib.Core.List.{List}
 use Prim.Native.Nat.{ℕ, ◌-◌, ◌/◌, ◌≤◌, ◌<◌}
@@ -7,9 +8,7 @@ use lib.ListN.{length, replicate}
 use Rattle.rules.specs.declared.BestState.{BestState}
 use Rattle.rules.specs.declared.Refusal.{Refusal}
 use Rattle.rules.specs.declared.Start.TheVariants.{Cold as cold}
-use Rattle.rules.specs.declared.Verdict.{Verdict}
-use Rattle.rules.specs.declared.Verdict.TheVariants.{Accepted, Refused}
-use Rattle.rules.specs.declared.BestOutcome.TheVariants.{Finished, Refused as RefusedBest}
+use Rattle.rules.specs.Answers.{Verdict}
 use Rattle.rules.specs.Input.{Input, cache, input_of, nodes}
 use Rattle.rules.specs.AnyTable.{no_pairings, finished_by as finished_any}
 use Rattle.rules.specs.Best.{kind, best_table, listing}
@@ -23,21 +22,21 @@ use Rattle.best.proofs.Laws.{finished_table, node_table_lem}
 use Rattle.tables.proofs.Nodes.{tables_in_at}
 
 -- an accepted input is in its ranges
-pub best_checked : (i : Input) → Accepted ≡ best_verdict i → Checked i
+pub best_checked : (i : Input) → Ok tt ≡ best_verdict i → Checked i
 unfolding best_outcome
 best_checked i v = (best_accepted i (rw (← v) refl)).checked
 
 -- ---- the answer
 
 module _ (Z N v K : ℕ) (ts ns bs es rs ws : List ℕ) where
-  pub leaves_refused : (o : Verdict) (r : Refusal) → o ≡ best_verdict (handed Z N v K ts ns bs es rs ws) → o ≡ Refused r
-      → record { answer = RefusedBest r; result = rs; work = ws } ≡ best_analysed Z N v K ts ns bs es rs ws
+  pub leaves_refused : (o : Verdict) (r : Refusal) → o ≡ best_verdict (handed Z N v K ts ns bs es rs ws) → o ≡ Err r
+      → record { answer = Err r; result = rs; work = ws } ≡ best_analysed Z N v K ts ns bs es rs ws
   unfolding best_analysed best_outcome
   leaves_refused o r e f = rw (← e, f) (rw (← e, f) refl)
 
-  pub leaves_finished : (n : ℕ) (T : List BestState) (rs' ws' : List ℕ) → Accepted ≡ best_verdict (handed Z N v K ts ns bs es rs ws)
+  pub leaves_finished : (n : ℕ) (T : List BestState) (rs' ws' : List ℕ) → Ok tt ≡ best_verdict (handed Z N v K ts ns bs es rs ws)
       → T ≡ (finished (handed Z N v K ts ns bs es rs ws)).table → n ≡ length T → rs' ≡ written T (length rs) → ws' ≡ replicate (length ws) 0
-      → record { answer = Finished n; result = rs'; work = ws' } ≡ best_analysed Z N v K ts ns bs es rs ws
+      → record { answer = Ok n; result = rs'; work = ws' } ≡ best_analysed Z N v K ts ns bs es rs ws
   unfolding best_analysed best_outcome best_table
   leaves_finished n T rs' ws' o t m p q = rw (← o) (rw (← o, p, q, m, t) refl)
 

@@ -93,12 +93,14 @@ module _ (T : List BestState) (n : ℕ) (room : n ≤ length T) (i : ℕ) (among
   partner_start p t y l e d is =
       record { search = search_start listing (closer s) R (omega (arith, long)); near_is = is ∙ ap (nearness_of s) (other 0 p t l e d) }
 
-  -- the two searches have found document 01's choice
-  pub choice_found : (k : ℕ) (near : Nearness) (j : ℕ) → s ≡ state_at T i → best fewer (take n T) ≡ i → j + 1 ≡ n → Nearest s R k near j
-      → record { fewest = i; partner = k } ≡ choice (take n T)
-  unfolding choice_any
-  choice_found k near j d b e h =
-      rw (b, get_or-take n T i no_state among, ← d, search_end listing (closer s) R k j (omega (arith, long)) h.search)
+  pub partner_found : (k : ℕ) (near : Nearness) (j : ℕ) → j + 1 ≡ n → Nearest s R k near j → best (closer s) R ≡ k
+  partner_found k near j e h = search_end listing (closer s) R k j (omega (arith, long)) h.search
+
+-- the two searches find document 01's choice
+pub choice_found : (T : List BestState) (n : ℕ) → n ≤ length T → (i : ℕ) → i < n → (k : ℕ) → best fewer (take n T) ≡ i
+    → best (closer (state_at T i)) (remove i (take n T)) ≡ k → record { fewest = i; partner = k } ≡ choice (take n T)
+unfolding choice_any
+choice_found T n room i among k b h = rw (b, get_or-take n T i no_state among, h)
 
 -- ---- one fold of the first n states: one state taken out, then the other, and the two together put in
 

@@ -1,4 +1,5 @@
 -- A graph: that a node can be worked and what its work leaves in its slot, and one node after the other.
+use Rattle.std.specs.Prelude.{None}
 use mathlib.Core.Path.{◌≡◌, refl, sym, ap, ap₂, ◌∙◌}
 use mathlib.Core.Bool.{true}
 use mathlib.Core.List.{List, [], ◌∷◌, ◌++◌}
@@ -7,7 +8,6 @@ use native.Mathlib.Omega.{arith}
 use lib.ListN.{length, replicate}
 use lib.Seq.{paste}
 use Rattle.rules.specs.declared.BestState.{BestState}
-use Rattle.rules.specs.declared.Last.TheVariants.{Unknown as unknown}
 use Rattle.rules.specs.Contents.{among}
 use Rattle.rules.specs.AnyTable.{node_by as node_any, worked_by as worked_any}
 use Rattle.rules.specs.Best.{listing}
@@ -51,22 +51,22 @@ module _ (Z N : ℕ) (ts : List ℕ) (K M j : ℕ) (es ws : List ℕ) (s : Start
 
 -- its run leaves a table
 module _ (Z N : ℕ) (ts : List ℕ) (K p n : ℕ) (bs ws : List ℕ) (short : length bs ≤ 4096) (r : Ready Z N ts K (4096 - length bs) p n ws) where
-  node_table_lem : Table N Z ts K 4096 (run N Z K ts unknown bs (work_at p n ws)).table
+  node_table_lem : Table N Z ts K 4096 (run N Z K ts None bs (work_at p n ws)).table
   node_table_lem =
       table_wider N Z ts r.ranges.few_ways K (length bs + (4096 - length bs)) 4096 _ (omega arith)
       (table_run N Z ts r.ranges.few_ways K r.ranges.some_ways (counts_some Z r.ranges.known_sets) (counts_few Z r.ranges.known_sets)
-      r.ranges.some_states (4096 - length bs) unknown bs (work_at p n ws) r.table)
+      r.ranges.some_states (4096 - length bs) None bs (work_at p n ws) r.table)
 
-  pub node_few : (m : ℕ) (T : List BestState) → InPlace (run N Z K ts unknown bs (work_at p n ws)) p m (table_of ws) T → m ≤ 64
+  pub node_few : (m : ℕ) (T : List BestState) → InPlace (run N Z K ts None bs (work_at p n ws)) p m (table_of ws) T → m ≤ 64
   node_few m T g = omega (arith, g.stands.count, node_table_lem.short, r.ranges.few_states)
 
 -- which is found again in its slot
 pub node_done : (Z N : ℕ) (ts : List ℕ) (K j n m : ℕ) (bs es ws ws₁ ws₂ : List ℕ) (T : List BestState) → length bs ≤ 4096
     → Startable Z N ts K (4096 - length bs) j es ws
     → length ws₁ ≡ length ws → InPlace (enter K begins (worked_in j (table_of ws)) (predecessors (edges_of es) j)) (j * 64) n (table_of ws) (table_of ws₁)
-    → length ws₂ ≡ length ws₁ → InPlace (run N Z K ts unknown bs (work_at (j * 64) n ws₁)) (j * 64) m (table_of ws₁) (table_of ws₂)
+    → length ws₂ ≡ length ws₁ → InPlace (run N Z K ts None bs (work_at (j * 64) n ws₁)) (j * 64) m (table_of ws₁) (table_of ws₂)
     → T ≡ paste (table_of ws₂) (j * 64 + m) (replicate 64 no_state) (64 - m)
-    → NodeDone (run N Z K ts unknown bs (enter K begins (worked_in j (table_of ws)) (predecessors (edges_of es) j))) j (table_of ws) T
+    → NodeDone (run N Z K ts None bs (enter K begins (worked_in j (table_of ws)) (predecessors (edges_of es) j))) j (table_of ws) T
 node_done Z N ts K j n m bs es ws ws₁ ws₂ T short s e g f h q =
     rw (← stands_work _ (j * 64) n _ (table_of ws) (table_of ws₁) g)
     record {
@@ -76,7 +76,7 @@ node_done Z N ts K j n m bs es ws ws₁ ws₂ T short s e g f h q =
     }
   where
     X : List BestState
-    X = (run N Z K ts unknown bs (work_at (j * 64) n ws₁)).table
+    X = (run N Z K ts None bs (work_at (j * 64) n ws₁)).table
 
     r : Ready Z N ts K (4096 - length bs) (j * 64) n ws₁
     r = entered_ready Z N ts K (4096 - length bs) j es ws s n ws₁ e g
@@ -116,13 +116,13 @@ module _ (i : Input) (ok : Checked i) (j : ℕ) (l : j < nodes i) where
 
   -- and then one more is
   pub nodes_next : (T T' : List BestState) → worked_in j T ≡ worked i j
-      → NodeDone (run i.ways i.sets i.limit i.tracked unknown (run_of i j) (enter i.limit begins (worked_in j T) (predecessors (edges_of i.edges) j))) j T T'
+      → NodeDone (run i.ways i.sets i.limit i.tracked None (run_of i j) (enter i.limit begins (worked_in j T) (predecessors (edges_of i.edges) j))) j T T'
       → worked_in (suc j) T' ≡ worked i (suc j)
   unfolding worked_any node_any tables_any
   nodes_next T T' d h =
       ap₂ (λ (X : List (List BestState)) (b : ℕ). record { tables = X; aside = b })
       (ap₂ (λ (X : List (List BestState)) (Y : List BestState). X ++ (Y ∷ [])) (tables_in_kept listing j (j * 64) T T' (omega arith) h.before) h.table) h.aside
-      ∙ ap (λ (d : Worked). let w = run i.ways i.sets i.limit i.tracked unknown (run_of i j) (enter i.limit begins d (predecessors (edges_of i.edges) j)) in
+      ∙ ap (λ (d : Worked). let w = run i.ways i.sets i.limit i.tracked None (run_of i j) (enter i.limit begins d (predecessors (edges_of i.edges) j)) in
       record { tables = d.tables ++ (w.table ∷ []); aside = w.aside }) d
       ∙ ap (λ (w : Work). record { tables = (worked i j).tables ++ (w.table ∷ []); aside = w.aside })
       (sym (run_last i.ways i.sets i.limit i.tracked (last_before (lasts_to i j) (predecessors (edges_of i.edges) j)) (run_of i j)

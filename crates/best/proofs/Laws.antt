@@ -1,4 +1,5 @@
 -- The laws of every kind of table (Listings, Pairings, AnyTable, Nodes), for the best case's.
+use Rattle.std.specs.Prelude.{None}
 use mathlib.Core.Path.{◌≡◌, refl}
 use mathlib.Core.Bool.{true}
 use mathlib.Core.List.{List, [], ◌∷◌, ◌++◌, flat_map}
@@ -7,11 +8,9 @@ use native.Mathlib.Omega.{arith}
 use lib.ListN.{length}
 use Rattle.basics.specs.Sums.{sum_over}
 use Rattle.rules.specs.declared.BestState.{BestState}
-use Rattle.rules.specs.declared.Last.{Last}
-use Rattle.rules.specs.declared.Last.TheVariants.{Unknown as unknown}
 use Rattle.rules.specs.declared.Pair.{Pair}
 use Rattle.rules.specs.declared.Target.{Target}
-use Rattle.rules.specs.Contents.{among, size, shared, target_of}
+use Rattle.rules.specs.Contents.{among, size, shared, target_of, Last}
 use Rattle.rules.specs.Input.{Input, nodes, offset}
 use Rattle.rules.specs.AnyTable.{no_pairings, access as access_any_lem, advance as advance_any, run as run_any}
 use Rattle.rules.specs.Best.{successors as successors_of, miss as miss_of, listing, kind}
@@ -93,7 +92,7 @@ none_aside [] = refl
 none_aside (s ∷ T) = omega (arith, none_aside T)
 
 -- the block accessed directly before changes nothing
-pub run_last : (N Z K : ℕ) (ts : List ℕ) (l : Last) (bs : List ℕ) (w : Work) → run N Z K ts l bs w ≡ run N Z K ts unknown bs w
+pub run_last : (N Z K : ℕ) (ts : List ℕ) (l : Last) (bs : List ℕ) (w : Work) → run N Z K ts l bs w ≡ run N Z K ts None bs w
 unfolding run_any advance_any access_any_lem successors_of miss_of target_of
 run_last N Z K ts l [] w = refl
 run_last N Z K ts l (b ∷ bs) w = refl

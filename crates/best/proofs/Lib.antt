@@ -10,6 +10,8 @@ pub mod Folding
 pub mod Settling
 -- Graphs
 pub mod Graphs
+-- Zeros behind a table
+pub mod Sealing
 -- What a call leaves
 pub mod Handing
 pub mod Calls

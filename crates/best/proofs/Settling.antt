@@ -1,5 +1,6 @@
 -- A table in its place: an access of it can be worked and fits, and each access starts from what the one before it left. What is the same for every kind of table is in
 -- tables/proofs/Settling.
+use Rattle.std.specs.Prelude.{None, Some}
 use mathlib.Core.Path.{◌≡◌, refl, sym, ◌∙◌}
 use mathlib.Core.Bool.{true}
 use mathlib.Core.List.{List, [], ◌∷◌}
@@ -7,7 +8,6 @@ use Prim.Native.Nat.{ℕ, suc, ◌≤◌, ◌<◌}
 use native.Mathlib.Omega.{arith}
 use lib.ListN.{length, take, drop, get_or}
 use Rattle.rules.specs.declared.BestState.{BestState}
-use Rattle.rules.specs.declared.Last.TheVariants.{Block as block, Unknown as unknown}
 use Rattle.rules.specs.declared.Target.{Target}
 use Rattle.rules.specs.Units.{whole, more}
 use Rattle.rules.specs.Contents.{among, target_of}
@@ -42,8 +42,8 @@ module _ (N Z : ℕ) (ts : List ℕ) (few : N ≤ 16) (x : Target) (aim : Aimed 
   placed short i p = omega (arith, short, aim.placed i p)
 
 -- what is found out about a block is what an access to it is after
-pub aimed_so : (Z : ℕ) (ts : List ℕ) → among set_counts Z ≡ true → (b : ℕ) (x : Target) → x ≡ target_of Z ts unknown b → Aimed Z ts x
-aimed_so Z ts known b x e = rw e (aimed Z ts (counts_some Z known) (counts_few Z known) unknown b)
+pub aimed_so : (Z : ℕ) (ts : List ℕ) → among set_counts Z ≡ true → (b : ℕ) (x : Target) → x ≡ target_of Z ts None b → Aimed Z ts x
+aimed_so Z ts known b x e = rw e (aimed Z ts (counts_some Z known) (counts_few Z known) None b)
 
 -- what is gathered can be settled
 pub gathered_fits : (Z N : ℕ) (ts : List ℕ) (K M : ℕ) (x : Target) (T : List BestState) (r : ℕ) (T₀ T₁ : List BestState) → InRange Z N ts K → Aimed Z ts x
@@ -67,11 +67,11 @@ advanced N K x y X at r m T T₁ T₂ p low g h = rw (← p) (settled_from kind 
 -- as far as access i, from w; the last block changes nothing
 module _ (N Z K : ℕ) (ts bs : List ℕ) where
   abbrev pub Ran : ℕ → Work → Work → Type 0
-  Ran i v w = RanAny kind N Z K ts bs i unknown v unknown w
+  Ran i v w = RanAny kind N Z K ts bs i None v None w
 
-  pub ran_next : (i : ℕ) (v w : Work) (b : ℕ) → i < length bs → b ≡ get_or bs i 0 → Ran i v w → Ran (suc i) (advance N K (target_of Z ts unknown b) v) w
+  pub ran_next : (i : ℕ) (v w : Work) (b : ℕ) → i < length bs → b ≡ get_or bs i 0 → Ran i v w → Ran (suc i) (advance N K (target_of Z ts None b) v) w
   ran_next i v w b here e h =
-      sym (run_last N Z K ts (block b) (drop (suc i) bs) (advance N K (target_of Z ts unknown b) v)) ∙ ran_next_any kind N Z K ts bs i unknown v unknown w b here e h
+      sym (run_last N Z K ts (Some b) (drop (suc i) bs) (advance N K (target_of Z ts None b) v)) ∙ ran_next_any kind N Z K ts bs i None v None w b here e h
 
 -- a table that can be worked on still can where more hits and misses are allowed, and after an access
 pub ready_wider : (Z N : ℕ) (ts : List ℕ) (K M L at n : ℕ) (ws : List ℕ) → M ≤ L → Ready Z N ts K M at n ws → Ready Z N ts K L at n ws
@@ -85,7 +85,7 @@ ready_wider Z N ts K M L at n ws l r =
     }
 
 pub ready_next : (Z N : ℕ) (ts : List ℕ) (K L M at n n' : ℕ) (b : ℕ) (ws ws' : List ℕ) → suc L ≤ M → length ws' ≡ length ws → Ready Z N ts K L at n ws
-    → InPlace (advance N K (target_of Z ts unknown b) (work_at at n ws)) at n' (table_of ws) (table_of ws') → Ready Z N ts K M at n' ws'
+    → InPlace (advance N K (target_of Z ts None b) (work_at at n ws)) at n' (table_of ws) (table_of ws') → Ready Z N ts K M at n' ws'
 ready_next Z N ts K L M at n n' b ws ws' l e r g =
     record {
       ranges = r.ranges;
@@ -95,16 +95,16 @@ ready_next Z N ts K L M at n n' b ws ws' l e r g =
       table = rw g.stands.table t;
     }
   where
-    t : Table N Z ts K M (advance N K (target_of Z ts unknown b) (work_at at n ws)).table
+    t : Table N Z ts K M (advance N K (target_of Z ts None b) (work_at at n ws)).table
     t =
         table_wider N Z ts r.ranges.few_ways K (suc L) M _ l
-        (table_advance N Z ts r.ranges.few_ways K r.ranges.some_ways r.ranges.some_states L (target_of Z ts unknown b) (work_at at n ws)
+        (table_advance N Z ts r.ranges.few_ways K r.ranges.some_ways r.ranges.some_states L (target_of Z ts None b) (work_at at n ws)
         (aimed_so Z ts r.ranges.known_sets b _ refl)
         r.table)
 
 -- when no access is to come, the table stands where it is to
 pub ran_stands : (Z N : ℕ) (ts : List ℕ) (K M at n i : ℕ) (bs ws : List ℕ) (w : Work) (T : List BestState) → length bs ≤ i → Ready Z N ts K M at n ws
-    → take at (table_of ws) ≡ take at T → Ran N Z K ts bs i (work_at at n ws) w → InPlace (run N Z K ts unknown bs w) at n T (table_of ws)
+    → take at (table_of ws) ≡ take at T → Ran N Z K ts bs i (work_at at n ws) w → InPlace (run N Z K ts None bs w) at n T (table_of ws)
 ran_stands Z N ts K M at n i bs ws w T past r e h =
-    rw (← ran_all kind N Z K ts bs i unknown (work_at at n ws) unknown w past h)
+    rw (← ran_all kind N Z K ts bs i None (work_at at n ws) None w past h)
     (stands_there at n 0 _ (table_of ws) (omega (arith, r.slot, r.count, fits_table ws 5184 r.room)) e)

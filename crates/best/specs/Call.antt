@@ -1,10 +1,9 @@
 -- What a call leaves: its answer, and the two rooms that were lent.
-use Rattle.std.specs.Prelude.{List, ◌++◌, ℕ, ◌-◌, ◌*◌, ◌/◌, length, replicate}
+use Rattle.std.specs.Prelude.{List, ◌++◌, ℕ, ◌-◌, ◌*◌, ◌/◌, length, replicate, Err, Ok, Result}
+use Rattle.rules.specs.declared.Refusal.{Refusal}
 use Rattle.rules.specs.declared.BestState.{BestState}
-use Rattle.rules.specs.declared.Verdict.{Verdict}
-use Rattle.rules.specs.declared.Verdict.TheVariants.{Accepted, Refused}
-use Rattle.rules.specs.declared.BestOutcome.{BestOutcome}
 use Rattle.rules.specs.declared.Start.TheVariants.{Cold as cold}
+use Rattle.rules.specs.Answers.{Verdict}
 use Rattle.rules.specs.Input.{Input, cache, input_in}
 use Rattle.rules.specs.Best.{best_table}
 use Rattle.rules.specs.Refusals.{best_verdict, best_outcome}
@@ -12,7 +11,7 @@ use Rattle.words.specs.BestTables.{words_of}
 
 -- what the best case's call leaves: its answer, and the words of both rooms then
 pub record After : Type 0 where
-  pub answer : BestOutcome
+  pub answer : Result ℕ Refusal
   pub result : List ℕ
   pub work : List ℕ
 
@@ -22,9 +21,9 @@ written T n = words_of T ++ replicate (n - length T * 5) 0
 
 -- an accepted call leaves the finished table in the result room, and zeros in the working room; a refused one leaves both as they were
 abbrev pub leaves : Verdict → Input → List ℕ → List ℕ → After
-leaves Accepted i result work =
+leaves (Ok tt) i result work =
     record { answer = best_outcome i; result = written (best_table i) (length result); work = replicate (length work) 0 }
-leaves (Refused r) i result work = record { answer = best_outcome i; result = result; work = work }
+leaves (Err r) i result work = record { answer = best_outcome i; result = result; work = work }
 
 -- what comes in, of two rooms with five words to a state: Z sets of N ways, revision v
 abbrev pub handed : ℕ → ℕ → ℕ → ℕ → List ℕ → List ℕ → List ℕ → List ℕ → List ℕ → List ℕ → Input

@@ -1,9 +1,9 @@
 -- The best case's tables: what AnyTable says of every kind, at theirs. There is no set-aside count, so it is 0 throughout.
 use Rattle.std.specs.Prelude.{Bool, List, ℕ}
 use Rattle.rules.specs.declared.BestState.{BestState}
-use Rattle.rules.specs.declared.Last.{Last}
 use Rattle.rules.specs.declared.Pair.{Pair}
 use Rattle.rules.specs.declared.Target.{Target}
+use Rattle.rules.specs.Contents.{Last}
 use Rattle.rules.specs.Input.{Input}
 use Rattle.rules.specs.Units.{whole}
 use Rattle.rules.specs.Ordered.{rises}

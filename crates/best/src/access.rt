@@ -97,6 +97,7 @@ pub(crate) fn lose_each(
 {
     let mut m = n;
     let mut at = next_place(risk, 0);
+    // From one block of `risk` to the next, and not from place to place: no index is counted.
     while at < 16 {
         m = lose_one(words, m, s, x, risk, part, at);
         at = next_place(risk, at + 1);
@@ -169,11 +170,9 @@ pub(crate) fn gather(work: &mut [u64], from: usize, m: usize, x: Target, ways: u
     ensures { InScratch (access ways x (take m (drop from (table_of work.old)))) result (table_of work.old) (table_of work.new) }
 {
     let mut n: usize = 0;
-    let mut i: usize = 0;
-    while i < m {
+    for i in 0..m {
         let s = load(work, from + i);
         n = follow_to_scratch(work, n, s, x, ways);
-        i += 1;
     }
     n
 }

@@ -6,18 +6,15 @@ ghost use Rattle.best.specs.Call.{written};
 
 use crate::memory::{load, write};
 use crate::slots::count;
-use words::clear;
 
 // The first `n` states of the result are those of the working room from place `from` on.
 pub(crate) fn carry(res: &mut [u64], work: &[u64], from: usize, n: usize)
     requires { (n * 5 ≤ length res.old) × ((from + n) * 5 ≤ length work.now) }
     ensures { res.new ≡ words_of (take n (drop from (table_of work.now))) ++ drop (n * 5) res.old }
 {
-    let mut i: usize = 0;
-    while i < n {
+    for i in 0..n {
         let s = load(work, from + i);
         write(res, i, s);
-        i += 1;
     }
 }
 
@@ -29,8 +26,8 @@ pub(crate) fn hand_over(res: &mut [u64], work: &mut [u64], last: usize) -> usize
     ensures work_after { work.new ≡ replicate (length work.old) 0 }
 {
     let n = count(work, last * 64);
-    clear(res);
+    res.fill(0);
     carry(res, work, last * 64, n);
-    clear(work);
+    work.fill(0);
     n
 }

@@ -1,15 +1,15 @@
 // Folding a table down to the state limit.
 ghost use Rattle.std.specs.Prelude.{◌≡◌, true, cond, suc, ◌*◌, ◌-◌, ◌≤◌, ◌<◌, ltb, length, take};
-ghost use Rattle.rules.specs.Ordered.{remove};
+ghost use Rattle.rules.specs.Ordered.{best, remove};
 ghost use Rattle.best.specs.Tables.{rising, state_at};
-ghost use Rattle.best.specs.Tables.{choice, fold, folded, work_of};
+ghost use Rattle.best.specs.Tables.{choice, closer as closer_of, fewer, fold, folded, work_of};
 ghost use Rattle.words.specs.BestTables.{table_of};
 ghost use Rattle.rules.specs.Best.{sharing as sharing_of, apart as apart_of};
 ghost use Rattle.best.specs.Choosing.{nearness_of, nearer};
 ghost use Rattle.best.specs.Rooms.{Stands};
 
 use crate::meeting::meet;
-use crate::memory::{load, store};
+use crate::memory::load;
 use crate::placing::add;
 use folding::is_above_limit;
 use rules::{BestState, Pair};
@@ -92,43 +92,53 @@ pub(crate) fn place_past(out: usize, at: usize) -> usize
     at + 1
 }
 
-// The state of fewest units among `n`, and its partner among the others; `near` is how near the best partner so far is.
+// The place of the state of fewest units among `n`, the first if tied.
+pub(crate) fn fewest_of(words: &[u64], n: usize) -> usize
+    requires { (1 ≤ n) × (n * 5 ≤ length words.now) }
+    ensures { (result < n) × (best fewer (take n (table_of words.now)) ≡ result) }
+{
+    let mut fewest: usize = 0;
+    let mut units = load(words, 0).units;
+    for i in 1..n {
+        let u = load(words, i).units;
+        if u.0 < units.0 {
+            fewest = i;
+            units = u;
+        }
+    }
+    fewest
+}
+
+// The place of the best partner of the state at place `at` among the others of `n`; of the best so far it keeps how near it is, `near`.
+pub(crate) fn partner_of(words: &[u64], n: usize, at: usize) -> usize
+    requires { (2 ≤ n) × (at < n) × (n * 5 ≤ length words.now) }
+    ensures { best (closer_of (state_at (table_of words.now) at)) (remove at (take n (table_of words.now))) ≡ result }
+{
+    let s = load(words, at);
+    let first = load(words, place_past(at, 0));
+    let mut partner: usize = 0;
+    let mut near = how_near(s, first);
+    for j in 1..n - 1 {
+        let t = load(words, place_past(at, j));
+        let found = how_near(s, t);
+        if closer(found, near) {
+            partner = j;
+            near = found;
+        }
+    }
+    partner
+}
+
+// The state of fewest units among `n`, and its partner among the others.
 pub(crate) fn choose(words: &[u64], n: usize) -> Pair
     requires { (2 ≤ n) × (n * 5 ≤ length words.now) }
     ensures { result ≡ choice (take n (table_of words.now)) }
 {
-    let mut fewest: usize = 0;
-    let mut units = load(words, 0).units;
-    let mut i: usize = 1;
-    let found = 'search: loop {
-        if i < n {
-            let u = load(words, i).units;
-            if u.0 < units.0 {
-                fewest = i;
-                units = u;
-            }
-            i += 1;
-        } else {
-            let s = load(words, fewest);
-            let first = load(words, place_past(fewest, 0));
-            let mut partner: usize = 0;
-            let mut near = how_near(s, first);
-            let mut j: usize = 1;
-            loop {
-                if j + 1 >= n {
-                    break 'search Pair { fewest, partner };
-                }
-                let t = load(words, place_past(fewest, j));
-                let found = how_near(s, t);
-                if closer(found, near) {
-                    partner = j;
-                    near = found;
-                }
-                j += 1;
-            }
-        }
-    };
-    found
+    let fewest = fewest_of(words, n);
+    Pair {
+        fewest,
+        partner: partner_of(words, n, fewest),
+    }
 }
 
 // The first `n` states without the one at place `at`.
@@ -136,13 +146,7 @@ pub(crate) fn take_out(words: &mut [u64], n: usize, at: usize)
     requires { (at < n) × (n * 5 ≤ length words.old) }
     ensures { take (n - 1) (table_of words.new) ≡ remove at (take n (table_of words.old)) }
 {
-    let last = n - 1;
-    let mut j = at;
-    while j < last {
-        let t = load(words, j + 1);
-        store(words, j, t);
-        j += 1;
-    }
+    words.copy_within((at + 1) * 5..n * 5, at * 5);
 }
 
 // Takes the state at place `at` out of the first `n` states.
@@ -178,6 +182,7 @@ pub(crate) fn fold_down(words: &mut [u64], n: usize, limit: usize) -> usize
     ensures { Stands (folded limit (work_of (take n (table_of words.old)))) result (table_of words.new) }
 {
     let mut left = n;
+    // Until few enough are left: no index is counted.
     while is_above_limit(left, limit) {
         left = fold_once(words, left);
     }

@@ -1,6 +1,5 @@
 // Nodes one after the other, each from the joined tables of its predecessors.
-ghost use Rattle.std.specs.Prelude.{◌≡◌, ◌+◌, ◌-◌, ◌*◌, ◌≤◌, ◌<◌, length};
-ghost use Rattle.rules.specs.declared.Last.TheVariants.{Unknown};
+ghost use Rattle.std.specs.Prelude.{◌≡◌, ◌+◌, ◌-◌, ◌*◌, ◌≤◌, ◌<◌, length, None};
 ghost use Rattle.rules.specs.Input.{input_of, edges_of, predecessors};
 ghost use Rattle.rules.specs.Shape.{Every};
 ghost use Rattle.rules.proofs.Refusals.{Checked};
@@ -31,6 +30,7 @@ pub(crate) fn join_others(
 {
     let mut so_far = n;
     let mut e = next_edge(edges, to, after);
+    // From one edge into the node to the next, and not from edge to edge: no index is counted.
     while e < edges.len() {
         let from = edges[e] as usize * 64;
         let m = count(work, from);
@@ -79,7 +79,7 @@ pub(crate) fn work_node(
     limit: usize,
 )
     requires { (length accesses.now ≤ 4096) × Startable sets ways tracked.now limit (4096 - length accesses.now) j edges.now work.old }
-    ensures { NodeDone (run_over ways sets limit tracked.now Unknown accesses.now (enter_of limit begins (worked_in j (table_of work.old)) (predecessors (edges_of edges.now) j))) j (table_of work.old) (table_of work.new) }
+    ensures { NodeDone (run_over ways sets limit tracked.now None accesses.now (enter_of limit begins (worked_in j (table_of work.old)) (predecessors (edges_of edges.now) j))) j (table_of work.old) (table_of work.new) }
 {
     let entered = enter(work, j, edges, limit);
     let done = run(work, j * 64, entered, accesses, tracked, sets, ways, limit);
@@ -100,9 +100,8 @@ pub(crate) fn work_nodes(
     ensures { worked_in (length runs.now) (table_of work.new) ≡ worked (input_of cache limit tracked.now runs.now accesses.now edges.now) (length runs.now) }
 {
     let mut from: usize = 0;
-    let mut j: usize = 0;
-    while j < runs.len() {
-        let to = from + runs[j] as usize;
+    for (j, accessed) in runs.iter().enumerate() {
+        let to = from + *accessed as usize;
         work_node(
             work,
             j,
@@ -114,6 +113,5 @@ pub(crate) fn work_nodes(
             limit,
         );
         from = to;
-        j += 1;
     }
 }

@@ -85,6 +85,7 @@ pub(crate) fn pair_up(work: &mut [u64], left: usize, m: usize, right: usize, k: 
     let mut n: usize = 0;
     let mut a = front_at(work, left, m, 0);
     let mut b = front_at(work, right, k, 0);
+    // Two tables at once: each step goes on in one of them, or in both.
     loop {
         if m <= a.at {
             return n;

@@ -8,7 +8,7 @@ ghost use Rattle.best.specs.Call.{best_analysed};
 use crate::finish::hand_over;
 use crate::graph::work_nodes;
 use refusals::judge_best;
-use rules::{BestOutcome, Cache, Start, Verdict};
+use rules::{Cache, Refusal, Start};
 
 mod access;
 mod finish;
@@ -33,7 +33,7 @@ pub fn analyse_best(
     edges: &[u32],
     res: &mut [u64],
     work: &mut [u64],
-) -> BestOutcome
+) -> Result<usize, Refusal>
     ensures { record { answer = result; result = res.new; work = work.new } ≡ best_analysed sets ways revision limit tracked.now runs.now accesses.now edges.now res.old work.old }
 {
     let cache = Cache {
@@ -44,7 +44,7 @@ pub fn analyse_best(
     };
     let result_room = res.len() / 5;
     let working_room = work.len() / 5;
-    match judge_best(
+    judge_best(
         cache,
         limit,
         tracked,
@@ -53,12 +53,8 @@ pub fn analyse_best(
         edges,
         result_room,
         working_room,
-    ) {
-        Verdict::Refused(reason) => BestOutcome::Refused(reason),
-        Verdict::Accepted => {
-            work_nodes(work, runs, accesses, edges, tracked, cache, limit as usize);
-            let states = hand_over(res, work, runs.len() - 1);
-            BestOutcome::Finished(states)
-        }
-    }
+    )?;
+    work_nodes(work, runs, accesses, edges, tracked, cache, limit as usize);
+    let states = hand_over(res, work, runs.len() - 1);
+    Ok(states)
 }

@@ -1,6 +1,5 @@
 // Accesses one after the other, and a table joined: each followed by its folds.
-ghost use Rattle.std.specs.Prelude.{◌≡◌, true, ◌+◌, ◌*◌, ◌-◌, ◌≤◌, length, take, drop};
-ghost use Rattle.rules.specs.declared.Last.TheVariants.{Unknown};
+ghost use Rattle.std.specs.Prelude.{◌≡◌, true, ◌+◌, ◌*◌, ◌-◌, ◌≤◌, length, take, drop, None};
 ghost use Rattle.rules.specs.Contents.{target_of};
 ghost use Rattle.words.specs.BestTables.{table_of};
 ghost use Rattle.best.specs.Tables.{rising, work_of, folded, join, advance as advance_of, run as run_over};
@@ -11,7 +10,6 @@ use crate::access::gather;
 use crate::fold::fold_down;
 use crate::join::pair_up;
 use crate::memory::copy;
-use rules::Last;
 use tables::aim;
 
 // The `n` states of the scratch folded to at most `limit`; how many are left.
@@ -44,9 +42,9 @@ pub(crate) fn advance(
     limit: usize,
 ) -> usize
     requires { Ready sets ways tracked.now limit 4095 at n work.old }
-    ensures { InPlace (advance_of ways limit (target_of sets tracked.now Unknown block) (work_at at n work.old)) at result (table_of work.old) (table_of work.new) }
+    ensures { InPlace (advance_of ways limit (target_of sets tracked.now None block) (work_at at n work.old)) at result (table_of work.old) (table_of work.new) }
 {
-    let x = aim(tracked, sets, Last::Unknown, block);
+    let x = aim(tracked, sets, None, block);
     let gathered = gather(work, at, n, x, ways as u64);
     settle(work, at, gathered, limit)
 }
@@ -63,13 +61,11 @@ pub(crate) fn run(
     limit: usize,
 ) -> usize
     requires { (length accesses.now ≤ 4096) × Ready sets ways tracked.now limit (4096 - length accesses.now) at n work.old }
-    ensures { InPlace (run_over ways sets limit tracked.now Unknown accesses.now (work_at at n work.old)) at result (table_of work.old) (table_of work.new) }
+    ensures { InPlace (run_over ways sets limit tracked.now None accesses.now (work_at at n work.old)) at result (table_of work.old) (table_of work.new) }
 {
     let mut so_far = n;
-    let mut i: usize = 0;
-    while i < accesses.len() {
-        so_far = advance(work, at, so_far, accesses[i], tracked, sets, ways, limit);
-        i += 1;
+    for block in accesses {
+        so_far = advance(work, at, so_far, *block, tracked, sets, ways, limit);
     }
     so_far
 }

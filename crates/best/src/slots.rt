@@ -5,23 +5,20 @@ ghost use Rattle.best.specs.Tables.{no_state};
 ghost use Rattle.words.specs.BestTables.{table_of};
 ghost use Rattle.best.specs.Rooms.{filled};
 
-use crate::memory::{load, store};
-use rules::{BestState, Hits, Misses, Units};
+use crate::memory::load;
 
 // How many states the table at place `at` has: those before the first of 0 units, of 64.
 pub(crate) fn count(work: &[u64], at: usize) -> usize
     requires { (at + 64) * 5 ≤ length work.now }
     ensures { result ≡ filled (take 64 (drop at (table_of work.now))) }
 {
-    let mut n: usize = 0;
-    while n < 64 {
+    for n in 0..64 {
         let u = load(work, at + n).units;
         if u.0 == 0 {
             return n;
         }
-        n += 1;
     }
-    n
+    64
 }
 
 // No state stands behind the `n` states at place `at`, of 64.
@@ -29,19 +26,5 @@ pub(crate) fn seal(work: &mut [u64], at: usize, n: usize)
     requires { (n ≤ 64) × ((at + 64) * 5 ≤ length work.old) }
     ensures { table_of work.new ≡ paste (table_of work.old) (at + n) (replicate 64 no_state) (64 - n) }
 {
-    let mut i = n;
-    while i < 64 {
-        store(
-            work,
-            at + i,
-            BestState {
-                exact: false,
-                mask: 0,
-                misses: Misses(0),
-                hits: Hits(0),
-                units: Units(0),
-            },
-        );
-        i += 1;
-    }
+    work[(at + n) * 5..(at + 64) * 5].fill(0);
 }

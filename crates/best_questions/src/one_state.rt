@@ -1,7 +1,6 @@
-// One state: what the questions ask of its numbers.
+// One state of the best case: whether a table may have its numbers.
 ghost use Rattle.std.specs.Prelude.{◌≡◌, ◌||◌, ◌&&◌, eqb, leb};
 ghost use Rattle.rules.specs.BestQuestions.{best_fitting};
-ghost use Rattle.best_questions.specs.Counted.{count_of};
 
 use rules::BestState;
 
@@ -35,16 +34,4 @@ pub(crate) fn is_fitting(s: BestState) -> bool
         return false;
     }
     1 <= u.0
-}
-
-// The count that is asked about: the hits of `s`, or its misses.
-pub(crate) fn counted(s: BestState, of_hits: bool) -> u64
-    ensures { result ≡ count_of of_hits s }
-{
-    let m = s.misses;
-    let h = s.hits;
-    if of_hits {
-        return h.0;
-    }
-    m.0
 }

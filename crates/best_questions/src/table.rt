@@ -1,84 +1,42 @@
-// Whether the states in some words are a table of the best case.
-ghost use Rattle.std.specs.Prelude.{◌≡◌, eqb};
-ghost use Rattle.rules.specs.Units.{whole};
-ghost use Rattle.rules.specs.Ordered.{rises};
-ghost use Rattle.rules.specs.AnyTable.{total};
-ghost use Rattle.rules.specs.Best.{order, listing};
-ghost use Rattle.rules.specs.BestQuestions.{all_best_fitting, is_best_table};
+// The best case's table as a kind: its states in some words, how they are listed, and which of them a table may have.
+ghost use Rattle.rules.specs.Best.{listing};
+ghost use Rattle.rules.specs.BestQuestions.{best_fitting};
 ghost use Rattle.words.specs.BestTables.{table_of};
+ghost use Rattle.words.proofs.BestTables.{length_table_of, table_take};
 
-use crate::one_state::is_fitting;
-use orders::best_before;
-use rules::Units;
-use words::best_at;
+use any_table::Kind;
+use rules::BestState;
 
-// Whether each state stands before the next.
-pub(crate) fn rising(words: &[u64]) -> bool
-    ensures { result ≡ rises order (table_of words.now) }
-{
-    let n = words.len() / 5;
-    let mut i: usize = 0;
-    while i + 1 < n {
-        if best_before(best_at(words, i), best_at(words, i + 1)) {
-            i += 1;
-        } else {
-            return false;
-        }
-    }
-    true
-}
+// The best case's table.
+pub(crate) struct BestTable;
 
-// Whether a table may have each of the states.
-pub(crate) fn all_fit(words: &[u64]) -> bool
-    ensures { result ≡ all_best_fitting (table_of words.now) }
-{
-    let n = words.len() / 5;
-    let mut i: usize = 0;
-    while i < n {
-        if is_fitting(best_at(words, i)) {
-            i += 1;
-        } else {
-            return false;
-        }
-    }
-    true
-}
+impl Kind for BestTable {
+    type State = BestState;
 
-// Whether the units total WHOLE: what is left of it falls to 0, so that no sum can wrap.
-pub(crate) fn is_whole(words: &[u64]) -> bool
-    ensures { result ≡ eqb (total listing (table_of words.now)) whole }
-{
-    let n = words.len() / 5;
-    let whole = Units::WHOLE;
-    let mut left = whole.0;
-    let mut i: usize = 0;
-    while i < n {
-        let u = best_at(words, i).units;
-        if left < u.0 {
-            return false;
-        }
-        left -= u.0;
-        i += 1;
-    }
-    left == 0
-}
+    ghost states = { table_of };
 
-// Whether they are a table: 1 to 64 states, rising, each fitting, with a true total of WHOLE.
-pub(crate) fn is_table(words: &[u64]) -> bool
-    ensures { result ≡ is_best_table (table_of words.now) }
-{
-    let n = words.len() / 5;
-    if n < 1 {
-        return false;
+    ghost listing = { listing };
+
+    ghost fitting = { best_fitting };
+
+    ghost fifths = { length_table_of };
+
+    ghost parts = { table_take };
+
+    fn state_at(words: &[u64], place: usize) -> BestState {
+        words::best_at(words, place)
     }
-    if 64 < n {
-        return false;
+
+    fn units(s: BestState) -> u64 {
+        let u = s.units;
+        u.0
     }
-    if !rising(words) {
-        return false;
+
+    fn stands_before(s: BestState, t: BestState) -> bool {
+        orders::best_before(s, t)
     }
-    if !all_fit(words) {
-        return false;
+
+    fn is_fitting(s: BestState) -> bool {
+        crate::one_state::is_fitting(s)
     }
-    is_whole(words)
 }

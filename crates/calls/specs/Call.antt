@@ -1,12 +1,9 @@
 -- What a call leaves: its answer, and the two rooms that were lent.
-use Rattle.std.specs.Prelude.{cond, List, ◌++◌, ℕ, ◌-◌, ◌*◌, ◌/◌, eqb, length, replicate}
+use Rattle.std.specs.Prelude.{cond, List, ◌++◌, ℕ, ◌-◌, ◌*◌, ◌/◌, eqb, length, replicate, Err, Ok}
 use Rattle.rules.specs.declared.Cache.{Cache}
 use Rattle.rules.specs.declared.State.{State}
-use Rattle.rules.specs.declared.Verdict.{Verdict}
-use Rattle.rules.specs.declared.Verdict.TheVariants.{Accepted, Refused}
-use Rattle.rules.specs.declared.Outcome.{Outcome}
 use Rattle.rules.specs.Input.{Input, input_in}
-use Rattle.rules.specs.Answers.{number_of}
+use Rattle.rules.specs.Answers.{number_of, Outcome, Verdict}
 use Rattle.rules.specs.Table.{Work}
 use Rattle.rules.specs.Graph.{finished, finished_by}
 use Rattle.rules.specs.Refusals.{verdict, outcome}
@@ -25,8 +22,8 @@ written T n = words_of T ++ replicate (n - length T * 5) 0
 
 -- an accepted call leaves the finished table in the result room, and zeros in the working room; a refused one leaves both as they were
 abbrev pub leaves : Verdict → Input → List ℕ → List ℕ → After
-leaves Accepted i result work = record { answer = outcome i; result = written (finished i).table (length result); work = replicate (length work) 0 }
-leaves (Refused r) i result work = record { answer = outcome i; result = result; work = work }
+leaves (Ok tt) i result work = record { answer = outcome i; result = written (finished i).table (length result); work = replicate (length work) 0 }
+leaves (Err r) i result work = record { answer = outcome i; result = result; work = work }
 
 -- what comes in, of two rooms with five words to a state
 abbrev pub handed : Cache → ℕ → List ℕ → List ℕ → List ℕ → List ℕ → List ℕ → List ℕ → Input
@@ -41,8 +38,8 @@ analysed c K ts ns bs es result work = let i = handed c K ts ns bs es result wor
 -- accepted, the finished table w and zeros in the working room; refused, the result room as it was, and the working room as it was but for 19, where it
 -- becomes zero
 abbrev pub paired_leaves : Verdict → Outcome → Work → List ℕ → List ℕ → After
-paired_leaves Accepted answer w result work = record { answer = answer; result = written w.table (length result); work = replicate (length work) 0 }
-paired_leaves (Refused r) answer w result work =
+paired_leaves (Ok tt) answer w result work = record { answer = answer; result = written w.table (length result); work = replicate (length work) 0 }
+paired_leaves (Err r) answer w result work =
     record { answer = answer; result = result; work = cond (eqb (number_of r) 19) (replicate (length work) 0) work }
 
 -- the numbers of rows qs and the rows rs beside what the call without them takes

@@ -18,16 +18,10 @@ pub(crate) fn units_above_cycles(
     longest: u64,
     budget: u64,
 ) -> u64 {
-    let held = words.len() / 5;
     let mut units: u64 = 0;
-    let mut i: usize = 0;
-    while i < held {
-        if n <= i {
-            return units;
-        }
-        let cycles = cycles_of(core, longest, words[i * 5 + 1]);
-        units = plus(units, part_above(cycles, budget, words[i * 5 + 4]));
-        i += 1;
+    for state in words.chunks_exact(5).take(n) {
+        let cycles = cycles_of(core, longest, state[1]);
+        units = plus(units, part_above(cycles, budget, state[4]));
     }
     units
 }
@@ -58,15 +52,9 @@ pub(crate) fn first_cycles(words: &[u64], n: usize, core: Core, longest: u64, un
     if units_above_cycles(words, n, core, longest, 0) <= units {
         return 0;
     }
-    let held = words.len() / 5;
     let mut least = MOST;
-    let mut i: usize = 0;
-    while i < held {
-        if n <= i {
-            return least;
-        }
-        least = lesser(words, n, core, longest, units, words[i * 5 + 1], least);
-        i += 1;
+    for state in words.chunks_exact(5).take(n) {
+        least = lesser(words, n, core, longest, units, state[1], least);
     }
     least
 }
@@ -96,27 +84,14 @@ fn part_at(misses: u64, count: u64, units: u64) -> u64 {
 
 // The units of the states with `count` misses.
 fn units_at(words: &[u64], n: usize, count: u64) -> u64 {
-    let held = words.len() / 5;
     let mut units: u64 = 0;
-    let mut i: usize = 0;
-    while i < held {
-        if n <= i {
-            return units;
-        }
-        units = plus(units, part_at(words[i * 5 + 1], count, words[i * 5 + 4]));
-        i += 1;
+    for state in words.chunks_exact(5).take(n) {
+        units = plus(units, part_at(state[1], count, state[4]));
     }
     units
 }
 
 // Whether each place of the room has the units of that miss count.
 pub(crate) fn has_counts(room: &[u64], words: &[u64], n: usize) -> bool {
-    let mut i: usize = 0;
-    while i < room.len() {
-        if room[i] != units_at(words, n, i as u64) {
-            return false;
-        }
-        i += 1;
-    }
-    true
+    room.iter().enumerate().all(|(count, units)| *units == units_at(words, n, count as u64))
 }

@@ -3,7 +3,7 @@ use crate::WHOLE;
 use crate::cores::{core_of, cycles_of};
 use crate::expected::{first_cycles, units_above, units_above_cycles};
 use case_text::report::Report;
-use case_text::said::{amount_said, time_said};
+use case_text::said::count_said;
 use case_text::{MOST, one_less, plus};
 use questions::{above_cycles_in, smallest_cycles_in};
 
@@ -18,7 +18,7 @@ pub fn above(
     budget: u64,
     report: Report,
 ) -> Report {
-    let said = amount_said(above_cycles_in(words, n, core, longest, budget));
+    let said = count_said(above_cycles_in(words, n, core, longest, budget).map(|units| units.0));
     report.compared(said.refusal == 0).compared(
         said.value == units_above_cycles(words, n, core_of(core), longest, budget),
     )
@@ -33,7 +33,7 @@ pub fn budget(
     units: u64,
     report: Report,
 ) -> Report {
-    let said = time_said(smallest_cycles_in(words, n, core, longest, units));
+    let said = count_said(smallest_cycles_in(words, n, core, longest, units));
     report.compared(said.refusal == 0).compared(
         said.value == first_cycles(words, n, core_of(core), longest, units),
     )
@@ -48,8 +48,8 @@ pub fn refused(
     refusal: u64,
     report: Report,
 ) -> Report {
-    let units = amount_said(above_cycles_in(words, n, core, longest, 0));
-    let cycles = time_said(smallest_cycles_in(words, n, core, longest, 0));
+    let units = count_said(above_cycles_in(words, n, core, longest, 0).map(|units| units.0));
+    let cycles = count_said(smallest_cycles_in(words, n, core, longest, 0));
     report
         .compared(units.refusal == refusal)
         .compared(cycles.refusal == refusal)
@@ -99,10 +99,8 @@ fn each_count(
     report: Report,
 ) -> Report {
     let mut all = report;
-    let mut misses = from;
-    while misses < end {
+    for misses in from..end {
         all = around(words, n, core, longest, misses, all);
-        misses += 1;
     }
     all
 }
@@ -127,11 +125,9 @@ pub fn every_core(
     report: Report,
 ) -> Report {
     let mut all = report;
-    let mut core: usize = 0;
-    while core < 12 {
+    for core in 0..12 {
         let asked = ends(words, n, core, longest, all);
         all = each_count(words, n, core, longest, from, end, asked);
-        core += 1;
     }
     all
 }

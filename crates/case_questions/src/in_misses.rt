@@ -2,7 +2,7 @@
 use crate::expected::{first_budget, has_counts, last_count, units_above};
 use case_text::report::Report;
 use case_text::rooms::{first, is_marked, mark};
-use case_text::said::{amount_said, count_said};
+use case_text::said::count_said;
 use case_text::{MOST, one_less, plus};
 use questions::{above_in, smallest_budget_in, spread_in};
 
@@ -22,7 +22,7 @@ pub fn spread(words: &[u64], n: usize, room_words: u64, answer: u64, report: Rep
 
 // The units above one budget.
 fn above(words: &[u64], n: usize, budget: u64, report: Report) -> Report {
-    let said = amount_said(above_in(words, n, budget));
+    let said = count_said(above_in(words, n, budget).map(|units| units.0));
     report
         .compared(said.refusal == 0)
         .compared(said.value == units_above(words, n, budget))
@@ -47,10 +47,8 @@ fn around(words: &[u64], n: usize, misses: u64, report: Report) -> Report {
 // Each budget below `end`.
 fn each_budget(words: &[u64], n: usize, end: u64, report: Report) -> Report {
     let mut all = report;
-    let mut b: u64 = 0;
-    while b < end {
-        all = around(words, n, b, all);
-        b += 1;
+    for misses in 0..end {
+        all = around(words, n, misses, all);
     }
     all
 }

@@ -6,18 +6,16 @@
 // place k of the room where field k begins; the one behind the last field begins where the numbers end.
 ghost use Rattle.std.specs.Prelude.{◌≡◌, ◌≤◌, ◌<◌, min, length};
 
-use crate::{MOST, plus};
+use crate::plus;
 
 // The place of the first `mark` from place `from` on, or the end.
 fn find(text: &[u8], from: usize, mark: u8) -> usize
     ensures { result ≤ length text.now }
 {
-    let mut i = from;
-    while i < text.len() {
+    for i in from..text.len() {
         if text[i] == mark {
             return i;
         }
-        i += 1;
     }
     text.len()
 }
@@ -39,40 +37,34 @@ pub fn next_line(text: &[u8], from: usize) -> usize
     end + 1
 }
 
-// What was read of a line: which field is next, where the next number belongs, the digits of the one that is being read, the number
-// that they repeat, and the bytes before them with how many bits are behind the next one.
+// What was read of a line: which field is next, where the next number belongs, the one that is being read and whether it has digits, the number
+// that it repeats, if any, and the bytes before it with how many bits are behind the next one.
 #[derive(Clone, Copy)]
 struct Scan {
     field: usize,
     end: usize,
     number: u64,
     digits: bool,
-    value: u64,
-    repeated: bool,
+    repeated: Option<u64>,
     bytes: u64,
     behind: usize,
 }
 
 // Ten times a number and a digit; the largest number stands for one that does not fit.
 fn with_digit(n: u64, digit: u8) -> u64 {
-    if 1844674407370955161 < n {
-        return MOST;
-    }
-    plus(n * 10, digit as u64)
+    plus(n.saturating_mul(10), u64::from(digit))
 }
 
 fn put(room: &mut [u64], at: usize, value: u64) {
-    if at < room.len() {
-        room[at] = value;
+    if let Some(place) = room.get_mut(at) {
+        *place = value;
     }
 }
 
-// `value` from place `from` on, up to below place `end`.
+// `value` from place `from` on, up to below place `end` or to the room's end.
 fn put_all(room: &mut [u64], from: usize, end: usize, value: u64) {
-    let mut i = from;
-    while i < end {
-        put(room, i, value);
-        i += 1;
+    if let Some(places) = room.get_mut(from..end.min(room.len())) {
+        places.fill(value);
     }
 }
 
@@ -108,18 +100,17 @@ fn end_number(scan: Scan, room: &mut [u64]) -> Scan {
     let mut next = scan;
     next.number = 0;
     next.digits = false;
-    next.repeated = false;
+    next.repeated = None;
     next.bytes = 0;
     next.behind = 56;
     if !scan.digits {
         return next;
     }
     next.end = place_behind(scan);
-    if scan.repeated {
-        put_all(room, scan.end, next.end, scan.value);
-        return next;
+    match scan.repeated {
+        Some(value) => put_all(room, scan.end, next.end, value),
+        None => put(room, scan.end, number_read(scan)),
     }
-    put(room, scan.end, number_read(scan));
     next
 }
 
@@ -128,7 +119,7 @@ fn place_behind(scan: Scan) -> usize {
     if 8192 < scan.end {
         return scan.end;
     }
-    if !scan.repeated {
+    if scan.repeated.is_none() {
         return scan.end + 1;
     }
     if 8192 < scan.number {
@@ -148,9 +139,8 @@ fn take_byte(scan: Scan, byte: u8, room: &mut [u64]) -> Scan {
         }
     }
     if byte == b'*' {
-        next.value = scan.number;
+        next.repeated = Some(scan.number);
         next.number = 0;
-        next.repeated = true;
         return next;
     }
     if byte == b'.' {
@@ -166,45 +156,32 @@ fn take_byte(scan: Scan, byte: u8, room: &mut [u64]) -> Scan {
     next
 }
 
-fn take_at(scan: Scan, text: &[u8], at: usize, room: &mut [u64]) -> Scan {
-    if at < text.len() {
-        return take_byte(scan, text[at], room);
-    }
-    scan
-}
-
-fn scan_fields(text: &[u8], from: usize, end: usize, room: &mut [u64]) -> Scan {
+fn scan_fields(fields: &[u8], room: &mut [u64]) -> Scan {
     let mut scan = Scan {
         field: 1,
         end: 16,
         number: 0,
         digits: false,
-        value: 0,
-        repeated: false,
+        repeated: None,
         bytes: 0,
         behind: 56,
     };
-    let mut i = from;
-    while i < end {
-        scan = take_at(scan, text, i, room);
-        i += 1;
+    for byte in fields {
+        scan = take_byte(scan, *byte, room);
     }
     scan
 }
 
-// The fields from place `from` of the text on, up to below `end`. Those that are not there are empty.
-fn read_fields(text: &[u8], from: usize, end: usize, room: &mut [u64]) {
-    let scan = scan_fields(text, from, end, room);
+// The fields of a line. Those that are not there are empty.
+fn read_fields(fields: &[u8], room: &mut [u64]) {
+    let scan = scan_fields(fields, room);
     let all = end_number(scan, room);
     put_all(room, all.field, 16, all.end as u64);
 }
 
 // What a line is: its first byte.
 pub fn kind_of(text: &[u8], from: usize) -> u8 {
-    if from < text.len() {
-        return text[from];
-    }
-    b'\n'
+    text.get(from).copied().unwrap_or(b'\n')
 }
 
 // The name of a line stands between its first space and the space before its first stroke; it may have none.
@@ -222,7 +199,9 @@ pub fn name_of<'a>(text: &'a [u8], from: usize) -> &'a [u8] {
 
 // The numbers of the line that begins at place `from`.
 pub fn read_line(text: &[u8], from: usize, line: &mut [u64]) {
-    read_fields(text, find(text, from, b'|'), find(text, from, b'\n'), line);
+    let stroke = find(text, from, b'|');
+    let end = find(text, from, b'\n');
+    read_fields(&text[stroke.min(end)..end], line);
 }
 
 // Where a field begins.
@@ -239,58 +218,8 @@ fn begin(line: &[u64], field: usize) -> usize
     at
 }
 
-// The numbers of a field; none where it is not there.
-pub fn field_of<'a>(line: &'a [u64], field: usize) -> &'a [u64] {
-    if 14 < field {
-        return &line[0..0];
-    }
-    let from = begin(line, field);
-    let end = begin(line, field + 1);
-    if end < from {
-        return &line[0..0];
-    }
-    &line[from..end]
-}
-
-// The number at place `i` of a field, and 0 past the field's end.
-pub fn number(line: &[u64], field: usize, i: usize) -> u64 {
-    let numbers = field_of(line, field);
-    if numbers.len() <= i {
-        return 0;
-    }
-    numbers[i]
-}
-
-// How many numbers a field has.
-pub fn count(line: &[u64], field: usize) -> usize {
-    let numbers = field_of(line, field);
-    numbers.len()
-}
-
-// A number as 32 bits; the largest number stands for one that does not fit.
-pub fn small(n: u64) -> u32
-    ensures { result ≡ min n 4294967295 }
-{
-    if 4294967295 < n {
-        return 4294967295;
-    }
-    n as u32
-}
-
-// The numbers of a line as 32 bits, each at its place.
-pub fn copy_small(line: &[u64], list: &mut [u32]) {
-    let mut i: usize = 0;
-    while i < list.len() {
-        if line.len() <= i {
-            return;
-        }
-        list[i] = small(line[i]);
-        i += 1;
-    }
-}
-
-// The numbers of a field as 32 bits, where `list` has those of the line; none where it is not there.
-pub fn list_of<'a>(line: &[u64], list: &'a [u32], field: usize) -> &'a [u32] {
+// The numbers of a field, where `list` has those of the line; none where it is not there.
+pub fn list_of<'a, T>(line: &[u64], list: &'a [T], field: usize) -> &'a [T] {
     if 14 < field {
         return &list[0..0];
     }
@@ -303,4 +232,33 @@ pub fn list_of<'a>(line: &[u64], list: &'a [u32], field: usize) -> &'a [u32] {
         return &list[0..0];
     }
     &list[from..end]
+}
+
+// The numbers of a field of the line itself.
+pub fn field_of<'a>(line: &'a [u64], field: usize) -> &'a [u64] {
+    list_of(line, line, field)
+}
+
+// The number at place `i` of a field, and 0 past the field's end.
+pub fn number(line: &[u64], field: usize, i: usize) -> u64 {
+    field_of(line, field).get(i).copied().unwrap_or(0)
+}
+
+// How many numbers a field has.
+pub fn count(line: &[u64], field: usize) -> usize {
+    field_of(line, field).len()
+}
+
+// A number as 32 bits; the largest number stands for one that does not fit.
+pub fn small(n: u64) -> u32
+    ensures { result ≡ min n 4294967295 }
+{
+    u32::try_from(n).unwrap_or(u32::MAX)
+}
+
+// The numbers of a line as 32 bits, each at its place.
+pub fn copy_small(line: &[u64], list: &mut [u32]) {
+    for (place, number) in list.iter_mut().zip(line) {
+        *place = small(*number);
+    }
 }

@@ -17,17 +17,11 @@ pub const MOST: u64 = 18446744073709551615;
 pub fn plus(a: u64, b: u64) -> u64
     ensures { result ≡ capped a b }
 {
-    if MOST - a < b {
-        return MOST;
-    }
-    a + b
+    a.saturating_add(b)
 }
 
 pub fn one_less(n: u64) -> u64
     ensures { result ≡ n - 1 }
 {
-    if n == 0 {
-        return 0;
-    }
-    n - 1
+    n.saturating_sub(1)
 }

@@ -3,6 +3,7 @@ ghost use Rattle.std.specs.Prelude.{◌≡◌, [], ℕ, ◌<◌, length, get_or}
 ghost use Rattle.case_text.specs.Rooms.{mark_of, is_marked, has_only, is_left};
 
 // What stands at place `i` of a room before a call: another number at each place, and never 0.
+#[tactic(auto, unfolding(crate::specs::Rooms::mark_of))]
 fn mark_of(i: usize) -> u64
     ensures { result ≡ mark_of i }
 {
@@ -12,10 +13,8 @@ fn mark_of(i: usize) -> u64
 pub fn mark(room: &mut [u64])
     ensures { (length room.new ≡ length room.old) × ((j : ℕ) → j < length room.old → get_or room.new j 0 ≡ mark_of j) }
 {
-    let mut i: usize = 0;
-    while i < room.len() {
-        room[i] = mark_of(i);
-        i += 1;
+    for (i, word) in room.iter_mut().enumerate() {
+        *word = mark_of(i);
     }
 }
 
@@ -23,12 +22,10 @@ pub fn mark(room: &mut [u64])
 pub fn is_marked(room: &[u64]) -> bool
     ensures { result ≡ is_marked room.now }
 {
-    let mut i: usize = 0;
-    while i < room.len() {
-        if room[i] != mark_of(i) {
+    for (i, found) in room.iter().enumerate() {
+        if *found != mark_of(i) {
             return false;
         }
-        i += 1;
     }
     true
 }
@@ -37,10 +34,7 @@ pub fn is_marked(room: &[u64]) -> bool
 fn word(words: &[u64], at: usize) -> u64
     ensures { result ≡ get_or words.now at 0 }
 {
-    if at < words.len() {
-        return words[at];
-    }
-    0
+    words.get(at).copied().unwrap_or(0)
 }
 
 // Whether the room holds `words`, and zeros from there to its end.
@@ -50,12 +44,10 @@ pub fn has_only(room: &[u64], words: &[u64]) -> bool
     if room.len() < words.len() {
         return false;
     }
-    let mut i: usize = 0;
-    while i < room.len() {
-        if room[i] != word(words, i) {
+    for (i, found) in room.iter().enumerate() {
+        if *found != word(words, i) {
             return false;
         }
-        i += 1;
     }
     true
 }
@@ -70,8 +62,8 @@ pub fn is_left(answer: u64, room: &[u64], words: &[u64]) -> bool
     is_marked(room)
 }
 
-// The first `n` words of a room, and none where it has fewer: a line that asks for more is compared in no room at all.
-pub fn first<'a>(room: &'a mut [u64], n: u64) -> &'a mut [u64] {
+// The first `n` places of a room, and none where it has fewer: a line that asks for more is compared in no room at all.
+pub fn first<'a, T>(room: &'a mut [T], n: u64) -> &'a mut [T] {
     let end = n as usize;
     if room.len() < end {
         return &mut room[0..0];
@@ -84,13 +76,4 @@ pub fn is_cleared(answer: u64, room: &[u64]) -> bool
     ensures { result ≡ is_left answer [] room.now }
 {
     is_left(answer, room, &[])
-}
-
-// The same of 32 bits.
-pub fn first_numbers<'a>(room: &'a mut [u32], n: u64) -> &'a mut [u32] {
-    let end = n as usize;
-    if room.len() < end {
-        return &mut room[0..0];
-    }
-    &mut room[0..end]
 }

@@ -1,7 +1,7 @@
 // What a call answered, in numbers.
-use rules::{Amount, Count, Refusal, Time};
+use rules::Refusal;
 
-// A refusal's number and 0, or 0 and the value.
+// A refusal's number and 0, or 0 and the value. Kept as two numbers: a line of the cases tells both, and each is a comparison of its own, which the programs count.
 #[derive(Clone, Copy)]
 pub struct Said {
     pub refusal: u64,
@@ -19,23 +19,10 @@ pub fn refusal_said(why: Refusal) -> Said {
     }
 }
 
-pub fn amount_said(answer: Amount) -> Said {
+// Of a question's answer: a count of misses, cycles, accesses or units.
+pub fn count_said(answer: Result<u64, Refusal>) -> Said {
     match answer {
-        Amount::Units(units) => value_said(units.0),
-        Amount::Refused(why) => refusal_said(why),
-    }
-}
-
-pub fn count_said(answer: Count) -> Said {
-    match answer {
-        Count::Misses(misses) => value_said(misses),
-        Count::Refused(why) => refusal_said(why),
-    }
-}
-
-pub fn time_said(answer: Time) -> Said {
-    match answer {
-        Time::Cycles(cycles) => value_said(cycles),
-        Time::Refused(why) => refusal_said(why),
+        Ok(count) => value_said(count),
+        Err(why) => refusal_said(why),
     }
 }

@@ -5,7 +5,6 @@
 use front::write_front;
 use std::env::{Env, FillError};
 use text::{curve_of_chosen_text, cycles_of_chosen_text};
-use writing::Written;
 
 // The curve of a text, in rooms of the sizes that are needed.
 fn write_curve(input: &[u8]) {
@@ -14,7 +13,7 @@ fn write_curve(input: &[u8]) {
     let mut work: [u64; 25920] = [0; 25920];
     let mut counts: [u64; 4097] = [0; 4097];
     let mut output: [u8; 262144] = [0; 262144];
-    match curve_of_chosen_text(
+    if let Some(n) = curve_of_chosen_text(
         input,
         &mut numbers,
         &mut result,
@@ -22,8 +21,7 @@ fn write_curve(input: &[u8]) {
         &mut counts,
         &mut output,
     ) {
-        Written::Bytes(n) => write_front(&output, n),
-        Written::NoRoom => {}
+        write_front(&output, n);
     }
 }
 
@@ -33,7 +31,7 @@ fn write_cycles(input: &[u8], output: &mut [u8]) {
     let mut result: [u64; 320] = [0; 320];
     let mut work: [u64; 25920] = [0; 25920];
     let mut counts: [u64; 4097] = [0; 4097];
-    match cycles_of_chosen_text(
+    if let Some(n) = cycles_of_chosen_text(
         input,
         &mut numbers,
         &mut result,
@@ -41,8 +39,7 @@ fn write_cycles(input: &[u8], output: &mut [u8]) {
         &mut counts,
         output,
     ) {
-        Written::Bytes(n) => write_front(output, n),
-        Written::NoRoom => {}
+        write_front(output, n);
     }
 }
 

@@ -3,7 +3,6 @@
 
 use front::write_front;
 use text::curve_of_text;
-use writing::Written;
 
 // The curve of a text, in rooms of the sizes that are needed.
 fn write_curve(input: &[u8]) {
@@ -12,7 +11,7 @@ fn write_curve(input: &[u8]) {
     let mut work: [u64; 25920] = [0; 25920];
     let mut counts: [u64; 4097] = [0; 4097];
     let mut output: [u8; 262144] = [0; 262144];
-    match curve_of_text(
+    if let Some(n) = curve_of_text(
         input,
         &mut numbers,
         &mut result,
@@ -20,8 +19,7 @@ fn write_curve(input: &[u8]) {
         &mut counts,
         &mut output,
     ) {
-        Written::Bytes(n) => write_front(&output, n),
-        Written::NoRoom => {}
+        write_front(&output, n);
     }
 }
 

@@ -3,7 +3,7 @@
 
 ghost use Rattle.std.specs.Prelude.{◌≡◌};
 ghost use Rattle.curve_numbers.specs.Places.{end_of};
-ghost use Rattle.curve_numbers.specs.Choices.{start_of, chosen_in};
+ghost use Rattle.curve_numbers.specs.Choices.{chosen_in};
 
 use rules::Start;
 
@@ -15,14 +15,8 @@ pub struct Choice {
     pub start: Start,
 }
 
-// What numbers begin with: a choice, or none that is well formed.
-#[derive(Clone, Copy)]
-pub enum Chosen {
-    Cache(Choice),
-    Nothing,
-}
-
 // Where the part ends whose count stands at place `at`, with `width` numbers for each that it counts; past the end where it is cut short.
+#[tactic(auto, unfolding(crate::specs::Places::end_of))]
 pub fn end_of(numbers: &[u32], at: usize, width: u8) -> usize
     ensures { result ≡ end_of width numbers.now at }
 {
@@ -36,28 +30,16 @@ pub fn end_of(numbers: &[u32], at: usize, width: u8) -> usize
     end
 }
 
-// The start that a number stands for: 0 for an empty cache.
-fn start_of(number: u32) -> Start
-    ensures { result ≡ start_of number }
-{
-    if number == 0 {
-        return Start::Cold;
-    }
-    Start::Warm
-}
-
 // The choice that numbers begin with: the set count, the revision and the start. It is none where one of the three is missing, or the start is neither 0 nor 1.
-pub fn choice_in(numbers: &[u32]) -> Chosen
+#[tactic(auto, unfolding(crate::specs::Choices::chosen_in, crate::specs::Choices::chooses))]
+pub fn choice_in(numbers: &[u32]) -> Option<Choice>
     ensures { result ≡ chosen_in numbers.now }
 {
     if numbers.len() < 3 {
-        return Chosen::Nothing;
+        return None;
     }
-    if numbers[2] > 1 {
-        return Chosen::Nothing;
-    }
-    let start = start_of(numbers[2]);
-    Chosen::Cache(Choice {
+    let start = Start::try_from(numbers[2]).ok()?;
+    Some(Choice {
         sets: numbers[0],
         revision: numbers[1],
         start,

@@ -3,7 +3,6 @@
 
 use front::write_front;
 use text::cycles_of_text;
-use writing::Written;
 
 // The curves in cycles of a text go to standard output, by way of `output`; the other rooms have the sizes that are needed.
 fn write_cycles(input: &[u8], output: &mut [u8]) {
@@ -11,7 +10,7 @@ fn write_cycles(input: &[u8], output: &mut [u8]) {
     let mut result: [u64; 320] = [0; 320];
     let mut work: [u64; 25920] = [0; 25920];
     let mut counts: [u64; 4097] = [0; 4097];
-    match cycles_of_text(
+    if let Some(n) = cycles_of_text(
         input,
         &mut numbers,
         &mut result,
@@ -19,8 +18,7 @@ fn write_cycles(input: &[u8], output: &mut [u8]) {
         &mut counts,
         output,
     ) {
-        Written::Bytes(n) => write_front(output, n),
-        Written::NoRoom => {}
+        write_front(output, n);
     }
 }
 

@@ -60,22 +60,17 @@ fn of_length(row: &[u32], length: u32, report: Report) -> Report {
 
 // The runs of a row.
 fn of_row(row: &[u32], report: Report) -> Report {
-    let end = read(row, 11);
     let mut done = report;
-    let mut length = read(row, 10);
-    while length < end {
+    for length in read(row, 10)..read(row, 11) {
         done = of_length(row, length, done);
-        length += 1;
     }
     done
 }
 
 pub(crate) fn all_straight(report: Report) -> Report {
     let mut done = report;
-    let mut i: usize = 0;
-    while i < 35 {
-        done = of_row(&RUNS[i], done);
-        i += 1;
+    for row in &RUNS {
+        done = of_row(row, done);
     }
     done
 }

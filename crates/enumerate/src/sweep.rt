@@ -15,12 +15,9 @@ fn examine_list(row: &mut [u32], stride: u64, number: u64, report: Report) -> Re
 
 // Every access list of a row's graph, or every `stride`-th.
 pub(crate) fn sweep(row: &mut [u32], stride: u64, report: Report) -> Report {
-    let lists = lists_of(row);
     let mut done = report;
-    let mut number: u64 = 0;
-    while number < lists {
+    for number in 0..lists_of(row) {
         done = examine_list(row, stride, number, done);
-        number += 1;
     }
     done
 }

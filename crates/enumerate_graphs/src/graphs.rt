@@ -67,29 +67,24 @@ fn on_cache(cache: &[u32], graph: &[u32], edges: &[u32], report: Report) -> Repo
 // The same on each of the caches.
 fn on_caches(graph: &[u32], edges: &[u32], report: Report) -> Report {
     let mut done = report;
-    let mut i: usize = 0;
-    while i < 12 {
-        done = on_cache(&CACHES[i], graph, edges, done);
-        i += 1;
+    for cache in &CACHES {
+        done = on_cache(cache, graph, edges, done);
     }
     done
 }
 
 // A graph with the edges that it names.
 fn with_edges(graph: &[u32], report: Report) -> Report {
-    let named = read(graph, 8) as usize;
-    if 4 < named {
-        return report.compared(false);
+    match EDGES.get(read(graph, 8) as usize) {
+        Some(edges) => on_caches(graph, edges, report),
+        None => report.compared(false),
     }
-    on_caches(graph, &EDGES[named], report)
 }
 
 pub(crate) fn all_graphs(report: Report) -> Report {
     let mut done = report;
-    let mut i: usize = 0;
-    while i < 12 {
-        done = with_edges(&GRAPHS[i], done);
-        i += 1;
+    for graph in &GRAPHS {
+        done = with_edges(graph, done);
     }
     done
 }

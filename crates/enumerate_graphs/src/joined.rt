@@ -5,7 +5,7 @@ use examined::examine::examine_answer;
 use examined::report::Report;
 use pairings::NONE;
 use sequences::input::{edges_of, runs_of};
-use sequences::numbers::{less, plus, read};
+use sequences::numbers::{less, plus};
 
 // The call with a pairing or none for each join.
 fn examine_pairing(
@@ -64,15 +64,8 @@ fn examine_nodes(row: &[u32], limit: u32, one: u32, other: u32, report: Report) 
 // A random pairing for the first join, where the graph has one.
 pub(crate) fn examine_joined(row: &[u32], limit: u32, report: Report) -> Report {
     let edges = edges_of(row);
-    let e = first_join(edges);
-    if 15 < e {
-        return report;
+    match first_join(edges) {
+        Some((one, other)) => examine_nodes(row, limit, one, other, report),
+        None => report,
     }
-    examine_nodes(
-        row,
-        limit,
-        read(edges, e * 2),
-        read(edges, e * 2 + 2),
-        report,
-    )
 }

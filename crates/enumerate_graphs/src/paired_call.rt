@@ -1,6 +1,6 @@
 // The graph call with pairings on a row, in a working room of its own.
 use estimate::analyse_paired;
-use rules::Outcome;
+use rules::{Finished, Refusal};
 use sequences::input::{accesses_of, cache_of, edges_of, runs_of, tracked_of};
 
 pub(crate) fn paired(
@@ -9,7 +9,7 @@ pub(crate) fn paired(
     limit: u32,
     counts: &[u64],
     pairs: &[u64],
-) -> Outcome {
+) -> Result<Finished, Refusal> {
     let mut work: [u64; 25920] = [0; 25920];
     analyse_paired(
         cache_of(row),

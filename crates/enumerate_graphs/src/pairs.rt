@@ -2,7 +2,7 @@
 // budget. Before the first join there is one path to a node, so that the join's two tables are those of straight runs; states that have units left are taken
 // at random, and some or all of the units that both have.
 use examined::row_calls::worst;
-use rules::Outcome;
+use rules::{Finished, Refusal};
 use sequences::input::{edges_of, nodes_of};
 use sequences::numbers::{digit, less, plus, read, times};
 use sequences::paths::{collect, is_path, sets_of};
@@ -12,64 +12,41 @@ fn next(random: u64) -> u64 {
     (random % 2147483648 * 1103515245 + 12345) % 2147483648
 }
 
-fn smaller(a: u64, b: u64) -> u64 {
-    if a < b {
-        return a;
-    }
-    b
-}
-
 // ---- the units that are left of a table's states
 
-fn units_at(table: &[u64], at: usize) -> u64 {
-    if at < table.len() / 5 {
-        return table[at * 5 + 4];
-    }
-    0
-}
-
-// All of them.
+// All of them; a place that the table does not reach has none.
 fn take_units(units: &mut [u64; 64], table: &[u64]) {
-    let mut i: usize = 0;
-    while i < 64 {
-        units[i] = units_at(table, i);
-        i += 1;
+    units.fill(0);
+    for (left, state) in units.iter_mut().zip(table.chunks_exact(5)) {
+        *left = state[4];
     }
 }
 
 fn left_at(units: &[u64; 64], at: usize) -> u64 {
-    if at < 64 {
-        return units[at];
-    }
-    0
+    units.get(at).copied().unwrap_or(0)
 }
 
 fn spend(units: &mut [u64; 64], at: usize, used: u64) {
-    if at < 64 {
-        units[at] = less(units[at], used);
+    if let Some(left) = units.get_mut(at) {
+        *left = less(*left, used);
     }
 }
 
-// The last place up to `wanted` that has units left, or the first one of all: `found` is that of the places before `at`, and 64 where there is none.
-fn better(found: usize, at: usize, left: u64, wanted: u64) -> usize {
+// The last place up to `wanted` that has units left, or the first one of all: `found` is that of the places before `at`.
+fn better(found: Option<usize>, at: usize, left: u64, wanted: u64) -> Option<usize> {
     if left == 0 {
         return found;
     }
-    if found == 64 {
-        return at;
-    }
     if at as u64 <= wanted {
-        return at;
+        return Some(at);
     }
-    found
+    found.or(Some(at))
 }
 
-fn with_units(units: &[u64; 64], wanted: u64) -> usize {
-    let mut found: usize = 64;
-    let mut at: usize = 0;
-    while at < 64 {
-        found = better(found, at, units[at], wanted);
-        at += 1;
+fn with_units(units: &[u64; 64], wanted: u64) -> Option<usize> {
+    let mut found = None;
+    for (at, left) in units.iter().enumerate() {
+        found = better(found, at, *left, wanted);
     }
     found
 }
@@ -77,8 +54,8 @@ fn with_units(units: &[u64; 64], wanted: u64) -> usize {
 // ---- a pairing
 
 fn put(rows: &mut [u64], at: usize, number: u64) {
-    if at < rows.len() {
-        rows[at] = number;
+    if let Some(place) = rows.get_mut(at) {
+        *place = number;
     }
 }
 
@@ -109,7 +86,7 @@ fn pair_some(
     j: usize,
     random: u64,
 ) -> bool {
-    let most = smaller(left_at(left, i), left_at(right, j));
+    let most = left_at(left, i).min(left_at(right, j));
     if most == 0 {
         return false;
     }
@@ -130,64 +107,47 @@ pub(crate) fn pair_all(
     seed: u64,
 ) -> usize {
     let mut random = seed;
-    let mut row: usize = 0;
-    while row < 144 {
+    for row in 0..144 {
         let first = next(random);
         let second = next(first);
         random = next(second);
         let i = with_units(left, digit(first / 65536, m as u64));
         let j = with_units(right, digit(second / 65536, n as u64));
+        let (Some(i), Some(j)) = (i, j) else {
+            return row;
+        };
         if !pair_some(rows, row, left, right, i, j, random) {
             return row;
         }
-        row += 1;
     }
-    row
+    144
 }
 
 // ---- the first join
 
-// Whether edge `e` and the next lead to one node.
-fn is_join(edges: &[u32], e: usize) -> bool {
-    if 15 < e {
-        return false;
-    }
-    let to = read(edges, e * 2 + 1);
-    if to == 0 {
-        return false;
-    }
-    read(edges, e * 2 + 3) == to
-}
-
-// The first edge of which that is so; 16 where there is no join.
-pub(crate) fn first_join(edges: &[u32]) -> usize {
-    let mut e: usize = 0;
-    while e < 16 {
-        if is_join(edges, e) {
-            return e;
+// The nodes that join first: where the first edge comes from that leads to the same node as the next edge, and where that one does.
+pub(crate) fn first_join(edges: &[u32]) -> Option<(u32, u32)> {
+    for e in 0..16 {
+        let to = read(edges, e * 2 + 1);
+        if to != 0 && read(edges, e * 2 + 3) == to {
+            return Some((read(edges, e * 2), read(edges, e * 2 + 2)));
         }
-        e += 1;
     }
-    16
+    None
 }
 
 // The first set of nodes that is a path to `node`.
 fn path_to(edges: &[u32], node: u32, sets: u64) -> u64 {
-    let mut chosen: u64 = 0;
-    while chosen < sets {
-        if is_path(chosen, edges, node) {
-            return chosen;
-        }
-        chosen += 1;
-    }
-    0
+    (0..sets)
+        .find(|chosen| is_path(*chosen, edges, node))
+        .unwrap_or(0)
 }
 
 // How many states an answer's table has.
-fn states_of(answer: Outcome) -> usize {
+fn states_of(answer: Result<Finished, Refusal>) -> usize {
     match answer {
-        Outcome::Finished(states, _) => states,
-        Outcome::Refused(_) => 0,
+        Ok(finished) => finished.states,
+        Err(_) => 0,
     }
 }
 

@@ -1,4 +1,5 @@
 -- What a call leaves: the finished table is that of the last slot, and the entries for its joins have the form or not. The answers are in calls/proofs/Leaving.
+use Rattle.std.specs.Prelude.{Err, Ok}
 use mathlib.Core.Path.{◌≡◌, refl, sym, ap, ◌∙◌}
 use mathlib.Core.Bool.{Bool, true, false}
 use mathlib.Core.List.{List, []}
@@ -8,8 +9,6 @@ use lib.ListN.{length, replicate}
 use Rattle.rules.specs.declared.Cache.{Cache}
 use Rattle.rules.specs.declared.State.{State}
 use Rattle.rules.specs.declared.Units.{Units}
-use Rattle.rules.specs.declared.Verdict.TheVariants.{Accepted}
-use Rattle.rules.specs.declared.Outcome.TheVariants.{Refused}
 use Rattle.rules.specs.declared.Refusal.TheVariants.{Pairing}
 use Rattle.rules.specs.Input.{Input, input_of, nodes, edges_of, joins_to}
 use Rattle.rules.specs.AnyTable.{Entries, finished_by as finished_any}
@@ -59,10 +58,10 @@ module _ (c : Cache) (K : ℕ) (ts ns bs es qs ps rs ws : List ℕ) where
   fit_so f g e z h = rw (← e, z) (sym (h ∙ same_fit c K ts ns bs es (length rs / 5) (length ws / 5) (entry_of qs ps) (length ns)))
 
   -- what the end of the call leaves is what the call leaves
-  pub closed_leaves : (f : Bool) (T : List State) (a : Units) (k : ℕ) → Accepted ≡ verdict input → entries_fit input qs ps ≡ f → T ≡ (finished_by (entry_of qs ps) input).table
+  pub closed_leaves : (f : Bool) (T : List State) (a : Units) (k : ℕ) → Ok tt ≡ verdict input → entries_fit input qs ps ≡ f → T ≡ (finished_by (entry_of qs ps) input).table
       → a.0 ≡ (finished_by (entry_of qs ps) input).aside → k ≡ length ws → closed f T a rs k ≡ analysed_paired c K ts ns bs es qs ps rs ws
   closed_leaves true T a k v f t b e = leaves_paired c K ts ns bs es qs ps rs ws (length T) a.0 T _ _ v f t b refl refl (ap (λ (n : ℕ). replicate n 0) e)
-  closed_leaves false T a k v f t b e = leaves_unfit c K ts ns bs es qs ps rs ws (Refused Pairing) _ v f refl (ap (λ (n : ℕ). replicate n 0) e)
+  closed_leaves false T a k v f t b e = leaves_unfit c K ts ns bs es qs ps rs ws (Err Pairing) _ v f refl (ap (λ (n : ℕ). replicate n 0) e)
 
 -- no entries at all have the form
 pub no_form : Formed 0 [] []

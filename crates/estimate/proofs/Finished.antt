@@ -1,5 +1,6 @@
 -- What an accepted call leaves can be asked: the first states of the result room, as many as the answer says, are the finished table, which is
 -- a table by section 4, so that no question refuses it. The working room is then zero; a refused call leaves both rooms as they were.
+use Rattle.std.specs.Prelude.{Err, Ok}
 use mathlib.Core.Path.{◌≡◌, refl, sym, ap, ◌∙◌}
 use mathlib.Core.Bool.{true}
 use mathlib.Core.List.{List}
@@ -7,12 +8,8 @@ use Prim.Native.Nat.{ℕ, ◌-◌, ◌*◌, ◌/◌, ◌≤◌}
 use native.Mathlib.Omega.{arith}
 use lib.ListN.{length, take, replicate}
 use Rattle.rules.specs.declared.Cache.{Cache}
-use Rattle.rules.specs.declared.Verdict.{Verdict}
-use Rattle.rules.specs.declared.Verdict.TheVariants.{Accepted, Refused}
-use Rattle.rules.specs.declared.Outcome.{Outcome}
-use Rattle.rules.specs.declared.Outcome.TheVariants.{Refused as RefusedOutcome}
 use Rattle.rules.specs.declared.Refusal.{Refusal}
-use Rattle.rules.specs.Answers.{OutcomeSays, outcome_says}
+use Rattle.rules.specs.Answers.{OutcomeSays, outcome_says, Outcome, Verdict}
 use Rattle.rules.specs.Input.{Input, input_of}
 use Rattle.rules.specs.Table.{Work}
 use Rattle.rules.specs.Graph.{finished}
@@ -27,8 +24,8 @@ use Rattle.estimate.specs.Call.{After, leaves, handed, analysed}
 
 module _ (i : Input) (rs ws : List ℕ) where
   leaves_outcome : (v : Verdict) → (leaves v i rs ws).answer ≡ outcome i
-  leaves_outcome Accepted = refl
-  leaves_outcome (Refused r) = refl
+  leaves_outcome (Ok tt) = refl
+  leaves_outcome (Err r) = refl
 
   leaves_finished : (outcome_says (outcome i)).number ≡ 0
       → take (outcome_says (outcome i)).states (table_of (leaves (verdict i) i rs ws).result) ≡ (finished i).table
@@ -36,25 +33,25 @@ module _ (i : Input) (rs ws : List ℕ) where
   leaves_finished h = go (verdict i) h
     where
       go : (v : Verdict) → (outcome_says (answered v i)).number ≡ 0 → take (outcome_says (answered v i)).states (table_of (leaves v i rs ws).result) ≡ (finished i).table
-      go Accepted h = words_first (finished i).table (replicate (length rs - length (finished i).table * 5) 0)
-      go (Refused r) h = absurd (numbered r h)
+      go (Ok tt) h = words_first (finished i).table (replicate (length rs - length (finished i).table * 5) 0)
+      go (Err r) h = absurd (numbered r h)
 
   leaves_worked : (outcome_says (outcome i)).number ≡ 0 → (leaves (verdict i) i rs ws).work ≡ replicate (length ws) 0
   unfolding outcome
   leaves_worked h = go (verdict i) h
     where
       go : (v : Verdict) → (outcome_says (answered v i)).number ≡ 0 → (leaves v i rs ws).work ≡ replicate (length ws) 0
-      go Accepted h = refl
-      go (Refused r) h = absurd (numbered r h)
+      go (Ok tt) h = refl
+      go (Err r) h = absurd (numbered r h)
 
-  leaves_refused : (why : Refusal) → outcome i ≡ RefusedOutcome why
+  leaves_refused : (why : Refusal) → outcome i ≡ Err why
       → ((leaves (verdict i) i rs ws).result ≡ rs) × ((leaves (verdict i) i rs ws).work ≡ ws)
   unfolding outcome
   leaves_refused why e = go (verdict i) e
     where
-      go : (v : Verdict) → answered v i ≡ RefusedOutcome why → ((leaves v i rs ws).result ≡ rs) × ((leaves v i rs ws).work ≡ ws)
-      go Accepted e = absurd (numbered why (sym (ap (λ (q : Outcome). (outcome_says q).number) e)))
-      go (Refused r) e = (refl, refl)
+      go : (v : Verdict) → answered v i ≡ Err why → ((leaves v i rs ws).result ≡ rs) × ((leaves v i rs ws).work ≡ ws)
+      go (Ok tt) e = absurd (numbered why (sym (ap (λ (q : Outcome). (outcome_says q).number) e)))
+      go (Err r) e = (refl, refl)
 
 module _ (c : Cache) (K : ℕ) (ts ns bs es rs ws : List ℕ) where
   -- what the call leaves, and what its answer says
@@ -102,7 +99,7 @@ module _ (c : Cache) (K : ℕ) (ts ns bs es rs ws : List ℕ) (result : 320 ≤ 
   unfolding analysed
   call_clears h = ap (λ (f : After). f.work) is ∙ leaves_worked i rs ws (sym (ap (λ (q : Outcome). (outcome_says q).number) answers_handed) ∙ h)
 
-  pub call_refuses : (why : Refusal) → a ≡ RefusedOutcome why → (rs' ≡ rs) × (ws' ≡ ws)
+  pub call_refuses : (why : Refusal) → a ≡ Err why → (rs' ≡ rs) × (ws' ≡ ws)
   unfolding analysed
   call_refuses why e =
       let kept = leaves_refused i rs ws why (sym answers_handed ∙ e) in

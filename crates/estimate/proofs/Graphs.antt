@@ -8,10 +8,9 @@ use native.Mathlib.Omega.{arith}
 use lib.ListN.{length, take, drop, replicate}
 use lib.Seq.{paste}
 use Rattle.rules.specs.declared.Cache.{Cache}
-use Rattle.rules.specs.declared.Last.{Last}
 use Rattle.rules.specs.declared.State.{State}
 use Rattle.rules.specs.Units.{whole}
-use Rattle.rules.specs.Contents.{among}
+use Rattle.rules.specs.Contents.{among, Last}
 use Rattle.rules.specs.Filling.{filled_at, evenly}
 use Rattle.rules.specs.AnyTable.{Entry, Entries, later, behind, entry_fits, join_one, node_by as node_any, worked_by as worked_any, joins_fit as joins_fit_any, enter_fits as enter_fits_any, all_fit as all_fit_any}
 use Rattle.rules.specs.Table.{listing, no_state, Work}

@@ -6,9 +6,10 @@ use mathlib.Core.List.{List, [], ◌∷◌, ◌++◌, map}
 use Prim.Native.Nat.{ℕ, zero, suc, ◌+◌, ◌-◌, ◌*◌, ◌≤◌, ◌<◌}
 use native.Mathlib.Omega.{arith}
 use lib.Dec.{eqb, ltb}
-use lib.ListN.{length, get_or, take, drop, length-take, length-map, get_or-eq_default}
-use lib.Seq.{take-suc}
+use lib.ListN.{length, get_or, take, drop, length-append, length-take, length-map, get_or-eq_default}
 use borrow.Author.Tests.{ne_eqb, eqb-false, ltb-true, ltb-false}
+use Rattle.std.proofs.Common.{sum_by}
+use Rattle.std.proofs.lemmas.List.Recursion.{is_sum_by}
 use Rattle.basics.proofs.Bools.{and_left, and_right}
 use Rattle.rules.specs.declared.State.{State}
 use Rattle.rules.specs.Ordered.{insert_all}
@@ -22,7 +23,6 @@ use Rattle.rules.proofs.Join.{rising_join, length_join}
 use Rattle.rules.proofs.Table.{Rising, states_lawful, rising_is, rising_so, rising_add, length_add_all, add_append}
 use Rattle.rules.proofs.Entries.{Formed, rows_within, rows_few}
 use Rattle.pairings.specs.Rows.{row_at}
-use Rattle.pairings.proofs.Rows.{rows_next, rows_end_lem}
 use Rattle.words.specs.Tables.{table_of}
 use Rattle.words.proofs.Tables.{fits_table, table_take, table_drop}
 use Rattle.estimate.specs.Rooms.{InScratch}
@@ -38,24 +38,38 @@ pair_added_lem s t s' t' x u n X T T' p q e g =
 
 -- ---- the rows, one after the other
 
--- from ws, at row r: the n states of the scratch, with the pairs still to come, are the join by all rows
-pub record Rowing (left m right k : ℕ) (rs ws vs : List ℕ) (n r : ℕ) : Type 0 where
+-- three numbers before others are a row before theirs
+rows_cons : (q qs : List ℕ) → length q ≡ 3 → rows_of (q ++ qs) ≡ row_at q 0 ∷ rows_of qs
+rows_cons [] qs e = absurd (omega (arith, e))
+rows_cons (a ∷ []) qs e = absurd (omega (arith, e))
+rows_cons (a ∷ b ∷ []) qs e = absurd (omega (arith, e))
+rows_cons (a ∷ b ∷ u ∷ []) qs e = refl
+rows_cons (a ∷ b ∷ u ∷ v ∷ q) qs e = absurd (omega (arith, e))
+
+-- fewer are none
+rows_none : (qs : List ℕ) → length qs < 3 → rows_of qs ≡ []
+rows_none [] l = refl
+rows_none (a ∷ []) l = refl
+rows_none (a ∷ b ∷ []) l = refl
+rows_none (a ∷ b ∷ u ∷ qs) l = absurd (omega arith)
+
+-- from ws: the n states of the scratch, with the pairs of the rows qs, which are still to come, are the join by all rows
+pub record Rowing (left m right k : ℕ) (rs ws vs : List ℕ) (n : ℕ) (qs : List ℕ) : Type 0 where
   pub long : length vs ≡ length ws
-  pub within : r ≤ length rs
-  pub few : n * 3 ≤ r
-  pub exist : places_exist m k (rows_of (drop r rs)) ≡ true
+  pub few : n * 3 + length qs ≤ length rs
+  pub exist : places_exist m k (rows_of qs) ≡ true
   pub slots : take 4096 (table_of vs) ≡ take 4096 (table_of ws)
   pub count : n ≡ length (take n (drop 4096 (table_of vs)))
   pub rises : rising (take n (drop 4096 (table_of vs))) ≡ true
-  pub whole : add (map (matched (states_at table_of left m ws) (states_at table_of right k ws)) (rows_of (drop r rs))) (take n (drop 4096 (table_of vs)))
+  pub whole : add (map (matched (states_at table_of left m ws) (states_at table_of right k ws)) (rows_of qs)) (take n (drop 4096 (table_of vs)))
       ≡ paired (rows_of rs) (states_at table_of left m ws) (states_at table_of right k ws)
 
-pub rowing_none : (left m right k : ℕ) (rs ws : List ℕ) → places_exist m k (rows_of rs) ≡ true → Rowing left m right k rs ws ws 0 0
+pub rowing_none : (left m right k : ℕ) (rs ws : List ℕ) → places_exist m k (rows_of rs) ≡ true → Rowing left m right k rs ws ws 0 rs
 unfolding paired_any
 rowing_none left m right k rs ws e =
-    record { long = refl; within = omega arith; few = omega arith; exist = e; slots = refl; count = refl; rises = refl; whole = refl }
+    record { long = refl; few = omega arith; exist = e; slots = refl; count = refl; rises = refl; whole = refl }
 
-module _ {left m right k : ℕ} {rs ws vs : List ℕ} {n r : ℕ} (g : Rowing left m right k rs ws vs n r) (a : left + m ≤ 4096) (b : right + k ≤ 4096) where
+module _ {left m right k : ℕ} {rs ws vs qs : List ℕ} {n : ℕ} (g : Rowing left m right k rs ws vs n qs) (a : left + m ≤ 4096) (b : right + k ≤ 4096) where
   abbrev S : List State
   S = states_at table_of left m ws
 
@@ -65,64 +79,70 @@ module _ {left m right k : ℕ} {rs ws vs : List ℕ} {n r : ℕ} (g : Rowing le
   abbrev X : List State
   X = take n (drop 4096 (table_of vs))
 
-  module _ (here : r + 2 < length rs) where
-    exist_both : (is_pair m k (row_at rs r) && places_exist m k (rows_of (drop (r + 3) rs))) ≡ true
-    unfolding places_exist
-    exist_both = rows_next (places_exist m k) rs r true g.exist here
+  -- the next row is q
+  module _ (q next : List ℕ) (here : qs ≡ q ++ next) (three : length q ≡ 3) where
+    rows_then : rows_of qs ≡ row_at q 0 ∷ rows_of next
+    rows_then = ap rows_of here ∙ rows_cons q next three
 
-    pub places : (get_or rs r 0 < m) × (get_or rs (r + 1) 0 < k)
+    many : length qs ≡ 3 + length next
+    many = omega (arith, ap length here, length-append q next, three)
+
+    exist_both : (is_pair m k (row_at q 0) && places_exist m k (rows_of next)) ≡ true
+    unfolding places_exist
+    exist_both = sym (ap (places_exist m k) rows_then) ∙ g.exist
+
+    pub places : (get_or q 0 0 < m) × (get_or q 1 0 < k)
     places =
-        let p = and_left (is_pair m k (row_at rs r)) _ exist_both in
-        let q = and_left (ltb 0 (row_at rs r).units && ltb (row_at rs r).left m) _ p in
-        (ltb-true _ m (and_right (ltb 0 (row_at rs r).units) _ q), ltb-true _ k (and_right (ltb 0 (row_at rs r).units && ltb (row_at rs r).left m) _ p))
+        let p = and_left (is_pair m k (row_at q 0)) _ exist_both in
+        let z = and_left (ltb 0 (row_at q 0).units && ltb (row_at q 0).left m) _ p in
+        (ltb-true _ m (and_right (ltb 0 (row_at q 0).units) _ z), ltb-true _ k (and_right (ltb 0 (row_at q 0).units && ltb (row_at q 0).left m) _ p))
 
     pub rowing_room : 25920 ≤ length ws → length rs ≤ 3264
-        → (20480 + n * 5 + 5 ≤ length vs) × (rising X ≡ true) × (r + 3 ≤ length rs) × (left + get_or rs r 0 < 4096) × (right + get_or rs (r + 1) 0 < 4096)
+        → (20480 + n * 5 + 5 ≤ length vs) × (rising X ≡ true) × (length q ≡ 3) × (left + get_or q 0 0 < 4096) × (right + get_or q 1 0 < 4096)
     rowing_room room short =
-        (omega (arith, g.long, g.few), g.rises, omega arith, omega (arith, places.0), omega (arith, places.1))
+        (omega (arith, g.long, g.few, many), g.rises, three, omega (arith, places.0), omega (arith, places.1))
 
     -- one pair more
     module _ (n' : ℕ) (vs' : List ℕ) (same : length vs' ≡ length vs)
-        (added : InScratch (add (meet (state_at (table_of vs) (left + get_or rs r 0)) (state_at (table_of vs) (right + get_or rs (r + 1) 0)) (get_or rs (r + 2) 0) ∷ []) X) n' (table_of vs) (table_of vs')) where
+        (added : InScratch (add (meet (state_at (table_of vs) (left + get_or q 0 0)) (state_at (table_of vs) (right + get_or q 1 0)) (get_or q 2 0) ∷ []) X) n' (table_of vs) (table_of vs')) where
       -- it is the next row's
-      is_matched : meet (state_at (table_of vs) (left + get_or rs r 0)) (state_at (table_of vs) (right + get_or rs (r + 1) 0)) (get_or rs (r + 2) 0) ≡ matched S T (row_at rs r)
+      is_matched : meet (state_at (table_of vs) (left + get_or q 0 0)) (state_at (table_of vs) (right + get_or q 1 0)) (get_or q 2 0) ≡ matched S T (row_at q 0)
       is_matched =
-          ap₂ (λ (s t : State). meet s t (get_or rs (r + 2) 0))
-          (slot_reads listing X n (table_of ws) (table_of vs) there left m (get_or rs r 0) _ places.0 a refl)
-          (slot_reads listing X n (table_of ws) (table_of vs) there right k (get_or rs (r + 1) 0) _ places.1 b refl)
+          ap₂ (λ (s t : State). meet s t (get_or q 2 0))
+          (slot_reads listing X n (table_of ws) (table_of vs) there left m (get_or q 0 0) _ places.0 a refl)
+          (slot_reads listing X n (table_of ws) (table_of vs) there right k (get_or q 1 0) _ places.1 b refl)
         where
           there : InScratch X n (table_of ws) (table_of vs)
           there = record { count = g.count; table = refl; slots = g.slots }
 
-      after : take n' (drop 4096 (table_of vs')) ≡ add (matched S T (row_at rs r) ∷ []) X
+      after : take n' (drop 4096 (table_of vs')) ≡ add (matched S T (row_at q 0) ∷ []) X
       after = added.table ∙ ap (λ (s : State). add (s ∷ []) X) is_matched
 
-      pub rowing_more : Rowing left m right k rs ws vs' n' (r + 3)
+      pub rowing_more : Rowing left m right k rs ws vs' n' next
       rowing_more =
           record {
             long = same ∙ g.long;
-            within = omega arith;
-            few = omega (arith, g.few, g.count, count_then, ap length after, length_add_all (matched S T (row_at rs r) ∷ []) X);
-            exist = and_right (is_pair m k (row_at rs r)) _ exist_both;
+            few = omega (arith, g.few, many, g.count, count_then, ap length after, length_add_all (matched S T (row_at q 0) ∷ []) X);
+            exist = and_right (is_pair m k (row_at q 0)) _ exist_both;
             slots = added.slots ∙ g.slots;
             count = count_then;
-            rises = rw after (rising_is (add (matched S T (row_at rs r) ∷ []) X) (rising_add (matched S T (row_at rs r) ∷ []) X (rising_so X g.rises)));
+            rises = rw after (rising_is (add (matched S T (row_at q 0) ∷ []) X) (rising_add (matched S T (row_at q 0) ∷ []) X (rising_so X g.rises)));
             whole =
                 rw after
-                (sym (add_append (matched S T (row_at rs r) ∷ []) (map (matched S T) (rows_of (drop (r + 3) rs))) X)
-                ∙ rows_next (λ P. add (map (matched S T) P) X) rs r (paired (rows_of rs) S T) g.whole here);
+                (sym (add_append (matched S T (row_at q 0) ∷ []) (map (matched S T) (rows_of next)) X)
+                ∙ ap (λ P. add (map (matched S T) P) X) (sym rows_then) ∙ g.whole);
           }
         where
           count_then : n' ≡ length (take n' (drop 4096 (table_of vs')))
           count_then = added.count ∙ ap length (sym added.table)
 
   -- no pair more
-  pub rowing_end : length rs ≤ r + 2 → InScratch (paired (rows_of rs) S T) n (table_of ws) (table_of vs)
+  pub rowing_end : length qs < 3 → InScratch (paired (rows_of rs) S T) n (table_of ws) (table_of vs)
   unfolding add_any insert_all
   rowing_end h = record { count = g.count ∙ ap length all; table = all; slots = g.slots }
     where
       all : X ≡ paired (rows_of rs) S T
-      all = rows_end_lem (λ P. add (map (matched S T) P) X) rs r (paired (rows_of rs) S T) g.whole h
+      all = sym (ap (λ P. add (map (matched S T) P) X) (rows_none qs h)) ∙ g.whole
 
 -- ---- accepted or not
 
@@ -157,35 +177,17 @@ module _ (left m right k : ℕ) (ws rs : List ℕ) (b : Bool)
 
 -- ---- the entry for a join
 
-pub told_none : rows_told [] ≡ 0
+-- the rows of all entries are those of each, in a sum
+pub told_sum : (ns : List ℕ) → rows_told ns ≡ sum_by (λ n. cond (eqb n no_rows) 0 n) ns
 unfolding rows_told
-told_none = refl
+told_sum = is_sum_by rows_told (λ n. cond (eqb n no_rows) 0 n) refl (λ n ns. refl)
 
--- one entry more
-told_append : (ns : List ℕ) (n : ℕ) → rows_told (ns ++ (n ∷ [])) ≡ rows_told ns + cond (eqb n no_rows) 0 n
-unfolding rows_told
-told_append [] n = omega arith
-told_append (x ∷ ns) n = omega (arith, told_append ns n)
-
-told_take : (ns : List ℕ) (i : ℕ) → rows_told (take i ns) ≤ rows_told ns
+pub told_take : (ns : List ℕ) (i : ℕ) → rows_told (take i ns) ≤ rows_told ns
 unfolding rows_told
 told_take [] zero = omega arith
 told_take [] (suc i) = omega arith
 told_take (n ∷ ns) zero = omega arith
 told_take (n ∷ ns) (suc i) = omega (arith, told_take ns i)
-
-pub told_next : (ns : List ℕ) (i a b : ℕ) → i < length ns → a ≡ rows_told (take i ns) → b ≡ cond (eqb (get_or ns i 0) no_rows) 0 (get_or ns i 0)
-    → (a + b ≡ rows_told (take (suc i) ns)) × (a + b ≤ rows_told ns)
-told_next ns i a b l p q = (all, omega (arith, all, told_take ns (suc i)))
-  where
-    all : a + b ≡ rows_told (take (suc i) ns)
-    all = rw (p, q) (sym (ap rows_told (take-suc ns i 0 l) ∙ told_append (take i ns) (get_or ns i 0)))
-
--- the number that stands there, whatever stands for what is past the end
-pub number_there : (ns : List ℕ) (i : ℕ) → i < length ns → get_or ns i 0 ≡ get_or ns i no_rows
-number_there [] i l = absurd (omega arith)
-number_there (n ∷ ns) zero l = refl
-number_there (n ∷ ns) (suc i) l = number_there ns i (omega arith)
 
 -- there is none where its number says so
 pub entry_none : (ns rs : List ℕ) (number many : ℕ) → many ≡ get_or ns number no_rows → many ≡ no_rows → entry_of ns rs number ≡ no_pairing

@@ -1,4 +1,5 @@
 -- The block accessed directly before: what is kept of the nodes worked so far.
+use Rattle.std.specs.Prelude.{None}
 use mathlib.Core.Path.{◌≡◌, refl, sym, ap, ap₂, ◌∙◌}
 use mathlib.Core.Logic.{◌⊎◌, inl, inr}
 use mathlib.Core.List.{List, [], ◌∷◌}
@@ -7,9 +8,7 @@ use native.Mathlib.Nat.{le_of_suc-le-suc, eq-or-lt_of_le}
 use native.Mathlib.Omega.{arith}
 use lib.ListN.{length, set}
 use lib.Seq.{get_or-set_same, get_or-set_other}
-use Rattle.rules.specs.declared.Last.{Last}
-use Rattle.rules.specs.declared.Last.TheVariants.{Unknown as unknown}
-use Rattle.rules.specs.Contents.{agreed, last_after}
+use Rattle.rules.specs.Contents.{agreed, last_after, Last}
 use Rattle.rules.specs.Input.{Input, run_of, edges_of, predecessors}
 use Rattle.rules.specs.Graph.{last_at, agree_all, last_before, node_last, lasts_to}
 use Rattle.rules.specs.Shape.{Every}
@@ -43,5 +42,5 @@ module _ (i : Input) (ok : Checked i) (j : ℕ) (ls : List Last) (kept : LastsKe
   kept_next l here e p k = go (eq-or-lt_of_le (le_of_suc-le-suc k))
     where
       go : (p ≡ j) ⊎ (p < j) → last_at (set ls j l) p ≡ last_of i p
-      go (inl q) = rw q (get_or-set_same ls j l unknown here ∙ e ∙ ap (λ (k : Last). last_after k (run_of i j)) kept_before)
-      go (inr q) = get_or-set_other ls j p l unknown (λ e. absurd (omega arith)) ∙ kept p q
+      go (inl q) = rw q (get_or-set_same ls j l None here ∙ e ∙ ap (λ (k : Last). last_after k (run_of i j)) kept_before)
+      go (inr q) = get_or-set_other ls j p l None (λ e. absurd (omega arith)) ∙ kept p q

@@ -22,6 +22,8 @@ pub mod Laying
 pub mod LeftOver
 -- The states that follow
 pub mod Following
+-- States moved within a table
+pub mod Moving
 -- Folding
 pub mod Folding
 -- Joining by what is handed in

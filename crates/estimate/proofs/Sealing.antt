@@ -2,10 +2,10 @@
 use mathlib.Core.Path.{◌≡◌, refl, sym, ap, ap₂, ◌∙◌}
 use mathlib.Core.List.{List, ◌∷◌, ◌++◌, append_assoc}
 use Prim.Native.Nat.{ℕ, zero, suc, ◌+◌, ◌-◌, ◌*◌, ◌≤◌}
-use native.Mathlib.Nat.{le_of_suc-le-suc}
 use native.Mathlib.Omega.{arith}
 use lib.ListN.{length, take, drop, replicate, length-drop, length-replicate}
 use lib.Seq.{paste, length-take-le, drop-drop}
+use Rattle.std.proofs.lemmas.List.{take-replicate}
 use Rattle.rules.specs.declared.State.{State}
 use Rattle.rules.specs.Table.{no_state}
 use Rattle.words.specs.Tables.{table_of}
@@ -15,12 +15,6 @@ no_states : (q : ℕ) → table_of (replicate (q * 5) 0) ≡ replicate q no_stat
 unfolding table_of
 no_states zero = refl
 no_states (suc q) = rw (fifth q) (ap (λ (T : List State). no_state ∷ T) (no_states q))
-
--- the first of as many of one thing
-take_same : {A : Type 0} (a : A) (m k : ℕ) → k ≤ m → take k (replicate m a) ≡ replicate k a
-take_same a m zero l = refl
-take_same a zero (suc k) l = absurd (omega arith)
-take_same a (suc m) (suc k) l = ap (a ∷◌) (take_same a m k (le_of_suc-le-suc l))
 
 -- us are the words from those of place p + n to those of place p + 64, cleared
 pub sealed : (ws us : List ℕ) (p n : ℕ) → n ≤ 64 → (p + 64) * 5 ≤ length ws
@@ -43,7 +37,7 @@ sealed ws us p n few room e =
         (length-take-le ((p + 64) * 5 - (p + n) * 5) (drop ((p + n) * 5) ws) (omega (arith, length-drop ((p + n) * 5) ws)) ∙ many)
 
     same : replicate (64 - n) no_state ≡ take (64 - n) (replicate 64 no_state)
-    same = sym (take_same no_state 64 (64 - n) (omega arith))
+    same = sym (take-replicate (64 - n) 64 no_state (omega arith))
 
     behind : table_of (drop ((p + 64) * 5 - (p + n) * 5) (drop ((p + n) * 5) ws)) ≡ drop (p + n + (64 - n)) (table_of ws)
     behind =

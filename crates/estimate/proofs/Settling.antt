@@ -8,11 +8,10 @@ use native.Mathlib.Omega.{arith}
 use lib.ListN.{length, take, drop}
 use lib.Pow.{pow_mono}
 use Rattle.rules.specs.declared.Cache.{Cache}
-use Rattle.rules.specs.declared.Last.{Last}
 use Rattle.rules.specs.declared.Target.{Target}
 use Rattle.rules.specs.declared.State.{State}
 use Rattle.rules.specs.Units.{whole, more}
-use Rattle.rules.specs.Contents.{among, target_of}
+use Rattle.rules.specs.Contents.{among, target_of, Last}
 use Rattle.rules.specs.Refusals.{set_counts}
 use Rattle.rules.specs.AnyTable.{advance as advance_any}
 use Rattle.rules.specs.Table.{rising, units_of, Work, listing}

@@ -11,10 +11,9 @@ use native.Mathlib.Omega.{arith}
 use lib.Dec.{eqb, ltb}
 use lib.ListN.{length}
 use borrow.Author.Tests.{lt-ltb, le-ltb, eq-eqb, ne_eqb}
-use Rattle.rules.specs.declared.Place.{Place}
 use Rattle.rules.specs.declared.Target.{Target}
 use Rattle.rules.specs.declared.State.{State}
-use Rattle.rules.specs.Contents.{bit, hits, with, without, shared, size}
+use Rattle.rules.specs.Contents.{bit, hits, with, without, shared, size, Place}
 use Rattle.rules.specs.Ordered.{Order, before, by_number, by_two, then_by, is_before}
 use Rattle.rules.specs.Shape.{Every, Listed}
 use Rattle.rules.specs.Table.{state, units_of, order, rising, add}

@@ -1,5 +1,6 @@
 -- Each stream stands in the order of a table: where a thing happens to two states, their masks, misses and filled numbers change by the same amounts, and so
 -- stand to each other as they did. That holds for the loss of one block, for a miss that loses nothing, for one that fills an empty way, and for a hit, each by itself.
+use Rattle.std.specs.Prelude.{None, Some}
 use mathlib.Core.Path.{◌≡◌, refl, sym, ap, ap₂, ◌∙◌, subst}
 use mathlib.Core.Logic.{◌≢◌}
 use mathlib.Core.Bool.{Bool, true, false, cond, ◌&&◌, true≢false}
@@ -11,11 +12,9 @@ use lib.Bits.{bit_and, and_le_r, or_add_and, xor_add_and, or_zero_l}
 use lib.Pow.{pow-lt}
 use lib.Dec.{eqb, ltb}
 use borrow.Author.Tests.{le-ltb, ltb-true, ltb-false, ne_eqb}
-use Rattle.rules.specs.declared.Place.{Place}
-use Rattle.rules.specs.declared.Place.TheVariants.{At as at, Untracked as untracked}
 use Rattle.rules.specs.declared.Target.{Target}
 use Rattle.rules.specs.declared.State.{State}
-use Rattle.rules.specs.Contents.{bit, has, hits, with, without}
+use Rattle.rules.specs.Contents.{bit, has, hits, with, without, Place}
 use Rattle.rules.specs.Filling.{filled_at, fill_one}
 use Rattle.rules.specs.Ordered.{by_number, then_by}
 use Rattle.rules.specs.Table.{units_of, order}
@@ -55,8 +54,8 @@ module _ (C i : ℕ) where
 -- a block that comes in adds the same amount to any contents
 with_adds : (C : ℕ) (p : Place) (r : Bool) → has C r p ≡ false → with C p ≡ C + with 0 p
 unfolding with
-with_adds C (at i) r h = omega (arith, or_add_and C (2 ^ i), meets_none C i h, or_zero_l (2 ^ i))
-with_adds C untracked r h = omega arith
+with_adds C (Some i) r h = omega (arith, or_add_and C (2 ^ i), meets_none C i h, or_zero_l (2 ^ i))
+with_adds C None r h = omega arith
 
 -- a block that goes takes it
 without_takes : (C e : ℕ) → bit C e ≡ true → without C e + 2 ^ e ≡ C
@@ -157,8 +156,8 @@ module _ (N : ℕ) (few : N ≤ 16) (x : Target) (near : x.set < 16) where
       full s n = (risk_full N x s.filled s.mask k (risk s n)).0
 
       lacks : (C : ℕ) (p : Place) → has C x.again p ≡ false → bit C k ≡ true → has (without C k) x.again p ≡ false
-      lacks C (at i) h e = without_same C k i (λ q. true≢false (sym e ∙ ap (bit C) q ∙ h)) ∙ h
-      lacks C untracked h e = h
+      lacks C (Some i) h e = without_same C k i (λ q. true≢false (sym e ∙ ap (bit C) q ∙ h)) ∙ h
+      lacks C None h e = h
 
       moves : (s : State) → cond (hits x s.mask) 0 (amount s) ≢ 0 → with (without s.mask k) x.place + 2 ^ k ≡ s.mask + with 0 x.place
       moves s n =

@@ -50,6 +50,7 @@ pub(crate) fn lose_each(
 {
     let mut m = n;
     let mut at = next_place(risk, 0);
+    // From one block of `risk` to the next, and not from place to place: no index is counted.
     while at < 16 {
         m = lose_one(words, m, s, x, risk, part, at);
         at = next_place(risk, at + 1);
@@ -110,12 +111,10 @@ pub(crate) fn gather_each(
 {
     let mut n: usize = 0;
     let mut count = aside;
-    let mut i: usize = 0;
-    while i < m {
+    for i in 0..m {
         let s = load(work, from + i);
         n = follow_to_scratch(work, n, s, x, ways);
         count = count.add(left_over(s, x, ways));
-        i += 1;
     }
     Tally {
         states: n,

@@ -114,6 +114,7 @@ pub(crate) fn put_heads(
     let own = with_block(0, place);
     let mut so_far = Reached { states: n, at: 0 };
     let mut i: usize = 0;
+    // A head stays or gives way to the next of its run: only `pass_on` says whether the place moves.
     while i < count {
         let head = heads[i];
         let mask = mask_at(work, from + start_in(head));

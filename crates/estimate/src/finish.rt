@@ -7,7 +7,7 @@ ghost use Rattle.estimate.specs.Call.{written, closed};
 use crate::graph::Done;
 use crate::slots::count;
 use calls::refuse_pairing;
-use rules::Outcome;
+use rules::{Finished, Refusal};
 use words::hand_over as hand_words;
 
 // The table in slot `last` goes to the result, with zeros behind it; the working room is all zeros; how many states there are.
@@ -23,7 +23,12 @@ pub(crate) fn hand_over(res: &mut [u64], work: &mut [u64], last: usize) -> usize
 }
 
 // The end of a call with pairings: the table in slot `last` is handed over where every pairing was accepted, and otherwise the answer is 19.
-pub(crate) fn close(res: &mut [u64], work: &mut [u64], last: usize, done: Done) -> Outcome
+pub(crate) fn close(
+    res: &mut [u64],
+    work: &mut [u64],
+    last: usize,
+    done: Done,
+) -> Result<Finished, Refusal>
     requires { (last < 64) × (25920 ≤ length work.old) × (length (table_in last (table_of work.old)) * 5 ≤ length res.old) }
     ensures { record { answer = result; result = res.new; work = work.new } ≡ closed done.fits (table_in last (table_of work.old)) done.aside res.old (length work.old) }
 {
@@ -32,5 +37,5 @@ pub(crate) fn close(res: &mut [u64], work: &mut [u64], last: usize, done: Done) 
     }
     let states = hand_over(res, work, last);
     let aside = done.aside;
-    Outcome::Finished(states, aside)
+    Ok(Finished { states, aside })
 }

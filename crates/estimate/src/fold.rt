@@ -32,12 +32,10 @@ pub(crate) fn take_out(words: &mut [u64], n: usize, at: usize)
     requires { (at < n) × (n * 5 ≤ length words.old) }
     ensures { take (n - 1) (table_of words.new) ≡ remove at (take n (table_of words.old)) }
 {
-    let last = n - 1;
-    let mut j = at;
-    while j < last {
+    // state by state: word by word, as copy_within goes, the call took 4 in 100 instructions more
+    for j in at..n - 1 {
         let t = load(words, j + 1);
         store(words, j, t);
-        j += 1;
     }
 }
 
@@ -114,6 +112,7 @@ pub(crate) fn fold_down(words: &mut [u64], n: usize, limit: usize, aside: Units)
     ensures { Stands (folded limit (record { table = take n (table_of words.old); aside = aside.0 })) result.states result.aside.0 (table_of words.new) }
 {
     let mut tally = Tally { states: n, aside };
+    // Until few enough are left: no index is counted.
     while is_above_limit(tally.states, limit) {
         tally = fold_once(words, tally.states, tally.aside);
     }

@@ -20,7 +20,7 @@ use crate::tally::{Joined, Tally};
 use nodes::last::{last_after, last_before};
 use nodes::{after_edge, aside_at_start};
 use pairings::joins_to;
-use rules::{Cache, Last, State, Units};
+use rules::{Cache, State, Units};
 use states::both;
 use states::filled::start_of;
 use tables::next_edge;
@@ -50,6 +50,7 @@ pub(crate) fn join_others(
     let mut so_far = first;
     let mut number = joins;
     let mut e = next_edge(edges, to, after);
+    // From one edge into the node to the next, and not from edge to edge: no index is counted.
     while e < edges.len() {
         let from = edges[e] as usize * 64;
         let m = count(work, from);
@@ -111,7 +112,7 @@ pub(crate) fn work_node(
     work: &mut [u64],
     j: usize,
     past: Done,
-    last: Last,
+    last: Option<u32>,
     accesses: &[u32],
     edges: &[u32],
     tracked: &[u32],
@@ -156,31 +157,19 @@ pub(crate) fn work_nodes(
 {
     let aside = aside_at_start();
     let mut done = Done { aside, fits: true };
-    let mut lasts: [Last; 64] = [Last::Unknown; 64];
+    let mut lasts: [Option<u32>; 64] = [None; 64];
     let mut joins: usize = 0;
     let mut from: usize = 0;
-    let mut j: usize = 0;
-    while j < runs.len() {
-        let to = from + runs[j] as usize;
+    for (j, length) in runs.iter().enumerate() {
+        let to = from + *length as usize;
         let last = last_before(lasts, j, edges);
+        let its_run = &accesses[from..to];
         done = work_node(
-            work,
-            j,
-            done,
-            last,
-            &accesses[from..to],
-            edges,
-            tracked,
-            cache,
-            limit,
-            counts,
-            rows,
-            joins,
+            work, j, done, last, its_run, edges, tracked, cache, limit, counts, rows, joins,
         );
-        lasts[j] = last_after(last, &accesses[from..to]);
+        lasts[j] = last_after(last, its_run);
         joins = joins_to(edges, j + 1);
         from = to;
-        j += 1;
     }
     done
 }

@@ -22,23 +22,16 @@ pub(crate) struct Paired {
     pub fits: bool,
 }
 
-// The pair of the row at place `r`, added to the first `n` states of the scratch; how many states it then has.
-pub(crate) fn add_pair(
-    work: &mut [u64],
-    n: usize,
-    left: usize,
-    right: usize,
-    rows: &[u64],
-    r: usize,
-) -> usize
-    requires { (20480 + n * 5 + 5 ≤ length work.old) × (rising (take n (drop 4096 (table_of work.old))) ≡ true) × (r + 3 ≤ length rows.now) × (left + get_or rows.now r 0 < 4096) × (right + get_or rows.now (r + 1) 0 < 4096) }
-    ensures { InScratch (add_of (meet_of (state_at (table_of work.old) (left + get_or rows.now r 0)) (state_at (table_of work.old) (right + get_or rows.now (r + 1) 0)) (get_or rows.now (r + 2) 0) ∷ []) (take n (drop 4096 (table_of work.old)))) result (table_of work.old) (table_of work.new) }
+// The pair of a row, added to the first `n` states of the scratch; how many states it then has.
+pub(crate) fn add_pair(work: &mut [u64], n: usize, left: usize, right: usize, row: &[u64]) -> usize
+    requires { (20480 + n * 5 + 5 ≤ length work.old) × (rising (take n (drop 4096 (table_of work.old))) ≡ true) × (length row.now ≡ 3) × (left + get_or row.now 0 0 < 4096) × (right + get_or row.now 1 0 < 4096) }
+    ensures { InScratch (add_of (meet_of (state_at (table_of work.old) (left + get_or row.now 0 0)) (state_at (table_of work.old) (right + get_or row.now 1 0)) (get_or row.now 2 0) ∷ []) (take n (drop 4096 (table_of work.old)))) result (table_of work.old) (table_of work.new) }
 {
-    let a = left + rows[r] as usize;
-    let b = right + rows[r + 1] as usize;
+    let a = left + row[0] as usize;
+    let b = right + row[1] as usize;
     let s = load(work, a);
     let t = load(work, b);
-    add_to_scratch(work, n, meet(s, t, Units(rows[r + 2])))
+    add_to_scratch(work, n, meet(s, t, Units(row[2])))
 }
 
 // The pairs of the rows, into the scratch, which is empty at first, of the `m` states at place `left` and the `k` states at place `right`; how many
@@ -55,10 +48,8 @@ pub(crate) fn pair_rows(
     ensures { InScratch (paired (rows_of rows.now) (take m (drop left (table_of work.old))) (take k (drop right (table_of work.old)))) result (table_of work.old) (table_of work.new) }
 {
     let mut n: usize = 0;
-    let mut r: usize = 0;
-    while r + 2 < rows.len() {
-        n = add_pair(work, n, left, right, rows, r);
-        r += 3;
+    for row in rows.chunks_exact(3) {
+        n = add_pair(work, n, left, right, row);
     }
     n
 }
@@ -96,10 +87,7 @@ pub(crate) fn pair_given(
 pub(crate) fn many_of(counts: &[u64], number: usize) -> u64
     ensures { result ≡ get_or counts.now number no_rows }
 {
-    if number < counts.len() {
-        return counts[number];
-    }
-    NONE
+    counts.get(number).copied().unwrap_or(NONE)
 }
 
 // How many rows an entry has.
@@ -117,13 +105,7 @@ pub(crate) fn rows_before(counts: &[u64], number: usize) -> usize
     requires { (number ≤ length counts.now) × (rows_told counts.now < 18446744073709551616) }
     ensures { result ≡ rows_told (take number counts.now) }
 {
-    let mut rows: usize = 0;
-    let mut i: usize = 0;
-    while i < number {
-        rows += rows_in(counts[i]);
-        i += 1;
-    }
-    rows
+    counts[..number].iter().map(|many| rows_in(*many)).sum()
 }
 
 // The join of the `m` states at place `left` and the `k` states at place `right`, by the entry with this number, into the scratch.

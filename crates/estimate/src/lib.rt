@@ -1,8 +1,7 @@
 // The estimate: from one access to a whole graph, in memory that the caller lends.
 #![tactic(auto)]
 
-ghost use Rattle.std.specs.Prelude.{◌≡◌};
-ghost use Rattle.rules.specs.declared.Verdict.TheVariants.{Accepted};
+ghost use Rattle.std.specs.Prelude.{◌≡◌, Ok};
 ghost use Rattle.rules.specs.Refusals.{verdict};
 ghost use Rattle.estimate.specs.Call.{handed, analysed, analysed_paired};
 
@@ -11,7 +10,7 @@ use crate::graph::work_nodes;
 use calls::refuse_pairing;
 use pairings::{in_form, joins_to};
 use refusals::judge;
-use rules::{Cache, Outcome, Verdict};
+use rules::{Cache, Finished, Refusal};
 
 mod access;
 mod coming;
@@ -40,10 +39,10 @@ pub fn analyse(
     edges: &[u32],
     res: &mut [u64],
     work: &mut [u64],
-) -> Outcome
+) -> Result<Finished, Refusal>
     ensures { record { answer = result; result = res.new; work = work.new } ≡ analysed cache limit tracked.now runs.now accesses.now edges.now res.old work.old }
 {
-    match judge(
+    judge(
         cache,
         limit,
         tracked,
@@ -52,25 +51,21 @@ pub fn analyse(
         edges,
         res.len() / 5,
         work.len() / 5,
-    ) {
-        Verdict::Refused(reason) => Outcome::Refused(reason),
-        Verdict::Accepted => {
-            let done = work_nodes(
-                work,
-                runs,
-                accesses,
-                edges,
-                tracked,
-                cache,
-                limit as usize,
-                &[],
-                &[],
-            );
-            let states = hand_over(res, work, runs.len() - 1);
-            let aside = done.aside;
-            Outcome::Finished(states, aside)
-        }
-    }
+    )?;
+    let done = work_nodes(
+        work,
+        runs,
+        accesses,
+        edges,
+        tracked,
+        cache,
+        limit as usize,
+        &[],
+        &[],
+    );
+    let states = hand_over(res, work, runs.len() - 1);
+    let aside = done.aside;
+    Ok(Finished { states, aside })
 }
 
 // The work on a graph that is accepted but for what is handed in for its joins; where that is not accepted, the answer is 19 and `work` is zero.
@@ -85,8 +80,8 @@ fn work_paired(
     rows: &[u64],
     res: &mut [u64],
     work: &mut [u64],
-) -> Outcome
-    requires { Accepted ≡ verdict (handed cache limit tracked.now runs.now accesses.now edges.now res.old work.old) }
+) -> Result<Finished, Refusal>
+    requires { Ok tt ≡ verdict (handed cache limit tracked.now runs.now accesses.now edges.now res.old work.old) }
     ensures { record { answer = result; result = res.new; work = work.new } ≡ analysed_paired cache limit tracked.now runs.now accesses.now edges.now counts.now rows.now res.old work.old }
 {
     if !in_form(joins_to(edges, runs.len()), counts, rows) {
@@ -119,10 +114,10 @@ pub fn analyse_paired(
     rows: &[u64],
     res: &mut [u64],
     work: &mut [u64],
-) -> Outcome
+) -> Result<Finished, Refusal>
     ensures { record { answer = result; result = res.new; work = work.new } ≡ analysed_paired cache limit tracked.now runs.now accesses.now edges.now counts.now rows.now res.old work.old }
 {
-    match judge(
+    judge(
         cache,
         limit,
         tracked,
@@ -131,10 +126,8 @@ pub fn analyse_paired(
         edges,
         res.len() / 5,
         work.len() / 5,
-    ) {
-        Verdict::Refused(reason) => Outcome::Refused(reason),
-        Verdict::Accepted => work_paired(
-            cache, limit, tracked, runs, accesses, edges, counts, rows, res, work,
-        ),
-    }
+    )?;
+    work_paired(
+        cache, limit, tracked, runs, accesses, edges, counts, rows, res, work,
+    )
 }

@@ -1,4 +1,4 @@
-// Tables in lent words: five words a state. One state is read and written here only.
+// Tables in lent words: five words a state. One state is read and written here only; whole stretches are moved as words.
 ghost use Rattle.std.specs.Prelude.{◌≡◌, ◌⊎◌, ◌+◌, ◌*◌, ◌≤◌, length, set, drop};
 ghost use Rattle.std.proofs.Math.Seq.{paste};
 ghost use Rattle.rules.specs.Table.{state_at};
@@ -36,10 +36,5 @@ pub(crate) fn copy(words: &mut [u64], from: usize, to: usize, n: usize)
     requires { ((from + n) * 5 ≤ length words.old) × ((to + n) * 5 ≤ length words.old) × ((to + n ≤ from) ⊎ (from + n ≤ to)) }
     ensures { table_of words.new ≡ paste (table_of words.old) to (drop from (table_of words.old)) n }
 {
-    let mut i: usize = 0;
-    while i < n {
-        let s = load(words, from + i);
-        store(words, to + i, s);
-        i += 1;
-    }
+    words.copy_within(from * 5..(from + n) * 5, to * 5);
 }

@@ -102,11 +102,9 @@ pub(crate) fn put_whole(
         states: n,
         at: near,
     };
-    let mut i: usize = 0;
-    while i < m {
+    for i in 0..m {
         let s = load(work, from + i);
         so_far = put_next(work, so_far, s, x, ways, k);
-        i += 1;
     }
     so_far.states
 }
@@ -170,15 +168,12 @@ pub(crate) fn run_of(
     requires { (x.set < 16) × (1 ≤ m) × ((from + m) * 5 ≤ length work.now) × InRun ways x mask filling (state_at (table_of work.now) from) }
     ensures { (1 ≤ result) × (result ≤ m) × Every (InRun ways x mask filling) (take result (drop from (table_of work.now))) }
 {
-    let mut i: usize = 1;
-    while i < m {
-        if goes_on(load(work, from + i), x, ways, mask, filling) {
-            i += 1;
-        } else {
+    for i in 1..m {
+        if !goes_on(load(work, from + i), x, ways, mask, filling) {
             return i;
         }
     }
-    i
+    m
 }
 
 // The states that follow the `m` states at place `from`, in the scratch, which is empty at first. Few states are not worth the merging.

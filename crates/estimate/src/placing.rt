@@ -38,6 +38,7 @@ pub(crate) fn seek(words: &[u64], from: usize, n: usize, s: State) -> usize
 {
     let mut low = from;
     let mut high = n;
+    // By halves; the library searches slices of values, and these are states in words.
     while low < high {
         let middle = low + (high - low) / 2;
         if is_behind(words, middle, s) {
@@ -90,12 +91,7 @@ pub(crate) fn make_room(words: &mut [u64], n: usize, at: usize, s: State)
     requires { (at ≤ n) × (n * 5 + 5 ≤ length words.old) }
     ensures { take (suc n) (table_of words.new) ≡ take at (table_of words.old) ++ (s ∷ drop at (take n (table_of words.old))) }
 {
-    let mut j = n;
-    while at < j {
-        let t = load(words, j - 1);
-        store(words, j, t);
-        j -= 1;
-    }
+    words.copy_within(at * 5..n * 5, (at + 1) * 5);
     store(words, at, s);
 }
 

@@ -71,15 +71,13 @@ pub(crate) fn split_run(
     ensures by_index { ((j : ℕ) → j < m → get_or parts.new (start + j) 0 ≡ units_of (state_at (table_of work.old) (from + start + j)) / ways) × Parted ways from (table_of work.old) parts.old parts.new }
 {
     let mut so_far = rests;
-    let mut i: usize = 0;
-    while i < m {
+    for i in 0..m {
         let place = from + start + i;
         let share = Units(work[place * 5 + 4]).split(ways);
         let part = share.part;
         let rest = share.rest;
         parts[start + i] = part.0;
         so_far = add_rest(work, so_far, place, own, rest.0);
-        i += 1;
     }
     so_far
 }
@@ -135,10 +133,8 @@ pub(crate) fn split_runs(
         at: 0,
         left: 0,
     };
-    let mut i: usize = 0;
-    while i < count {
-        so_far = split_if(work, parts, so_far, from, m, heads[i], x, own, ways);
-        i += 1;
+    for head in &heads[..count] {
+        so_far = split_if(work, parts, so_far, from, m, *head, x, own, ways);
     }
     so_far
 }

@@ -17,7 +17,7 @@ use crate::memory::copy;
 use crate::merge::gather;
 use crate::tally::{Joined, Tally};
 use nodes::last::accessed;
-use rules::{Cache, Last, Units};
+use rules::{Cache, Units};
 use states::both;
 use tables::aim;
 
@@ -44,7 +44,7 @@ pub(crate) fn advance(
     work: &mut [u64],
     at: usize,
     tally: Tally,
-    last: Last,
+    last: Option<u32>,
     block: u32,
     tracked: &[u32],
     cache: Cache,
@@ -63,7 +63,7 @@ pub(crate) fn run(
     work: &mut [u64],
     at: usize,
     tally: Tally,
-    last: Last,
+    last: Option<u32>,
     accesses: &[u32],
     tracked: &[u32],
     cache: Cache,
@@ -74,12 +74,9 @@ pub(crate) fn run(
 {
     let mut so_far = tally;
     let mut before = last;
-    let mut i: usize = 0;
-    while i < accesses.len() {
-        let block = accesses[i];
-        so_far = advance(work, at, so_far, before, block, tracked, cache, limit);
-        before = accessed(block);
-        i += 1;
+    for block in accesses {
+        so_far = advance(work, at, so_far, before, *block, tracked, cache, limit);
+        before = accessed(*block);
     }
     so_far
 }

@@ -45,6 +45,7 @@ pub(crate) fn list_runs(
     let own = with_block(0, place);
     let mut count: usize = 0;
     let mut at: usize = 0;
+    // From run to run: each is as long as its states say.
     while at < m {
         let first = load(work, from + at);
         let filling = fills(first, x, ways);

@@ -122,11 +122,9 @@ pub(crate) fn put_shares(
         states: n,
         at: near,
     };
-    let mut i: usize = 0;
-    while i < m {
+    for i in 0..m {
         let units = Units(parts[start + i] * times);
         so_far = add_share(work, so_far, from + start + i, to, units);
-        i += 1;
     }
     so_far.states
 }
@@ -158,11 +156,9 @@ pub(crate) fn lay_shares(
     ensures { InScratch (add (sharing to times (take m (drop (from + start) (table_of work.old))) (take m (drop start parts.now))) (take n (drop 4096 (table_of work.old)))) result (table_of work.old) (table_of work.new) }
 {
     let mut states = n;
-    let mut i: usize = 0;
-    while i < m {
+    for i in 0..m {
         let units = Units(parts[start + i] * times);
         states = lay(work, states, from + start + i, to, units);
-        i += 1;
     }
     states
 }

@@ -6,22 +6,19 @@ ghost use Rattle.words.specs.Tables.{table_of};
 ghost use Rattle.estimate.specs.Rooms.{filled};
 
 use crate::memory::load;
-use words::clear;
 
 // How many states the table at place `at` has: those before the first of 0 units, of 64.
 pub(crate) fn count(work: &[u64], at: usize) -> usize
     requires { (at + 64) * 5 ≤ length work.now }
     ensures { result ≡ filled (take 64 (drop at (table_of work.now))) }
 {
-    let mut n: usize = 0;
-    while n < 64 {
+    for n in 0..64 {
         let u = load(work, at + n).units;
         if u.0 == 0 {
             return n;
         }
-        n += 1;
     }
-    n
+    64
 }
 
 // No state stands behind the `n` states at place `at`, of 64.
@@ -31,5 +28,5 @@ pub(crate) fn seal(work: &mut [u64], at: usize, n: usize)
 {
     let from = (at + n) * 5;
     let to = (at + 64) * 5;
-    clear(&mut work[from..to]);
+    work[from..to].fill(0);
 }

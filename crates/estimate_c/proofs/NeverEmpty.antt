@@ -1,14 +1,13 @@
 -- The text of a curve, in misses or in cycles, is never empty, so that 0 bytes mean that a room is too short, and nothing else: it begins with a word, `states` or
 -- `refused`.
+use Rattle.std.specs.Prelude.{Err, Ok}
 use mathlib.Core.Bool.{Bool, true, false, cond}
 use mathlib.Core.List.{List}
 use Prim.Native.Nat.{ℕ, ◌<◌}
 use native.Mathlib.Omega.{arith}
 use lib.ListN.{length}
 use Rattle.rules.specs.declared.Refusal.TheVariants.{Text}
-use Rattle.rules.specs.declared.Verdict.{Verdict}
-use Rattle.rules.specs.declared.Verdict.TheVariants.{Accepted, Refused}
-use Rattle.rules.specs.Answers.{number_of}
+use Rattle.rules.specs.Answers.{number_of, Verdict}
 use Rattle.rules.specs.Input.{Input}
 use Rattle.rules.specs.Refusals.{verdict}
 use Rattle.curve_numbers.specs.Parts.{complete, input_from}
@@ -33,8 +32,8 @@ either_some false xs ys p q = q
 -- where the text of an accepted input is not empty, what is printed is not
 module _ (text : Input → List ℕ) (some : (i : Input) → 0 < length (text i)) where
   told_some : (v : Verdict) (i : Input) → 0 < length (told v (text i))
-  told_some Accepted i = some i
-  told_some (Refused r) i = refused_some (number_of r)
+  told_some (Ok tt) i = some i
+  told_some (Err r) i = refused_some (number_of r)
 
   numbers_some : (ns : List ℕ) → 0 < length (of_numbers text plain ns)
   unfolding of_numbers of_input

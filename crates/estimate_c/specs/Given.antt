@@ -1,16 +1,11 @@
 -- What a function for C gives: a number, and what stands behind each pointer and in each room afterwards. Of the answers themselves `given/specs/Answers.antt` says it.
-use Rattle.std.specs.Prelude.{Bool, cond, List, ℕ}
-use Rattle.rules.specs.declared.Length.{Length}
-use Rattle.rules.specs.declared.Length.TheVariants.{Accesses, Refused as RefusedLength}
+use Rattle.std.specs.Prelude.{Bool, cond, List, ℕ, Result, Ok, Err}
+use Rattle.rules.specs.declared.Refusal.{Refusal}
 use Rattle.rules.specs.Answers.{number_of}
 use Rattle.rules.specs.Questions.{SpreadAnswer}
 use Rattle.listing.specs.Call.{ExpandingLeft}
 use Rattle.estimate.specs.Call.{After}
-use Rattle.recorder.specs.declared.Counted.{Counted}
-use Rattle.recorder.specs.declared.Counted.TheVariants.{Blocks, Refused as RefusedBlocks}
 use Rattle.recorder.specs.Calls.{ReadLeft, CountLeft}
-use Rattle.nightly.specs.declared.Built.{Built}
-use Rattle.nightly.specs.declared.Built.TheVariants.{Report as ReportOf, Refused as RefusedBuild}
 use Rattle.night_rows.specs.declared.Report.{Report}
 use Rattle.nightly.specs.Call.{BuildLeft}
 use Rattle.printed.specs.Rooms.{Rooms, NumbersWritten, TextWritten}
@@ -28,12 +23,7 @@ pub record GraphGiven : Type 0 where
 abbrev pub graph_given : After → ℕ → ℕ → GraphGiven
 graph_given a states aside = record { answer = outcome_given a.answer states aside; result = a.result; work = a.work }
 
--- ---- a question: 0, or the refusal's number; and its value
-
--- accesses
-abbrev pub length_given : Length → ℕ → ValueGiven
-length_given (Accesses n) value = record { number = 0; value = n }
-length_given (RefusedLength r) value = record { number = number_of r; value = value }
+-- ---- a spread: 0, or the refusal's number; its value; and the room
 
 -- a value with the room that was lent to its call
 pub record RoomGiven : Type 0 where
@@ -62,9 +52,9 @@ abbrev pub read_given : ReadLeft → ℕ → ℕ → ReadGiven
 read_given a count place = record { answer = reading_given a.answer count place; room = a.room }
 
 -- listing, writing: how many blocks are damaged, or were written
-abbrev pub blocks_given : Counted → ℕ → ValueGiven
-blocks_given (Blocks n) value = record { number = 0; value = n }
-blocks_given (RefusedBlocks r) value = record { number = number_of r; value = value }
+abbrev pub blocks_given : Result ℕ Refusal → ℕ → ValueGiven
+blocks_given (Ok n) value = record { number = 0; value = n }
+blocks_given (Err r) value = record { number = number_of r; value = value }
 
 -- of what they leave
 abbrev pub counted_given : CountLeft → ℕ → RoomGiven
@@ -115,9 +105,9 @@ pub record NightlyGiven : Type 0 where
   pub work : List ℕ
 
 -- of its answer, with the report that stood behind the pointers, and the rooms as they are now
-abbrev pub built_given : Built → Report → List ℕ → List ℕ → NightlyGiven
-built_given (ReportOf a) report rows work = record { number = 0; report = a; rows = rows; work = work }
-built_given (RefusedBuild r) report rows work = record { number = number_of r; report = report; rows = rows; work = work }
+abbrev pub built_given : Result Report Refusal → Report → List ℕ → List ℕ → NightlyGiven
+built_given (Ok a) report rows work = record { number = 0; report = a; rows = rows; work = work }
+built_given (Err r) report rows work = record { number = number_of r; report = report; rows = rows; work = work }
 
 -- of what the call leaves
 abbrev pub nightly_given : BuildLeft → Report → NightlyGiven

@@ -3,11 +3,11 @@ ghost use Rattle.std.specs.Prelude.{◌≡◌, take};
 ghost use Rattle.rules.specs.BestQuestions.{miss_spread_answer, hit_spread_answer};
 ghost use Rattle.words.specs.BestTables.{table_of};
 ghost use Rattle.best.specs.Call.{best_analysed};
-ghost use Rattle.estimate_c.specs.Best.{best_given, misses_given, hits_given, miss_spread_given, hit_spread_given};
+ghost use Rattle.estimate_c.specs.Best.{best_given, miss_spread_given, hit_spread_given};
 
 use best::analyse_best;
 use best_questions::{hit_spread_in, miss_spread_in};
-use rules::{BestOutcome, HitCount, MissCount};
+use given::give_count;
 
 // The best case's graph call.
 #[unsafe(no_mangle)]
@@ -29,37 +29,11 @@ pub extern "C" fn estimate_best(
     match analyse_best(
         sets, ways, revision, limit, tracked, runs, accesses, edges, res, work,
     ) {
-        BestOutcome::Finished(count) => {
+        Ok(count) => {
             *states = count;
             0
         }
-        BestOutcome::Refused(reason) => reason.number(),
-    }
-}
-
-// The answer of a spread as a number, 0 or the refusal's, and its largest count: misses,
-fn give_misses(answer: MissCount, largest: &mut u64) -> u64
-    ensures { record { number = result; value = largest.new } ≡ misses_given answer largest.old }
-{
-    match answer {
-        MissCount::Largest(found) => {
-            *largest = found.0;
-            0
-        }
-        MissCount::Refused(reason) => reason.number(),
-    }
-}
-
-// or hits.
-fn give_hits(answer: HitCount, largest: &mut u64) -> u64
-    ensures { record { number = result; value = largest.new } ≡ hits_given answer largest.old }
-{
-    match answer {
-        HitCount::Largest(found) => {
-            *largest = found.0;
-            0
-        }
-        HitCount::Refused(reason) => reason.number(),
+        Err(reason) => reason.number(),
     }
 }
 
@@ -73,7 +47,10 @@ pub extern "C" fn estimate_best_miss_spread(
 ) -> u64
     ensures { record { answer = record { number = result; value = largest.new }; room = counts.new } ≡ miss_spread_given (miss_spread_answer (take states (table_of table.now)) counts.old) largest.old }
 {
-    give_misses(miss_spread_in(table, states, counts), largest)
+    give_count(
+        miss_spread_in(table, states, counts).map(|misses| misses.0),
+        largest,
+    )
 }
 
 // And at each hit count.
@@ -86,5 +63,8 @@ pub extern "C" fn estimate_best_hit_spread(
 ) -> u64
     ensures { record { answer = record { number = result; value = largest.new }; room = counts.new } ≡ hit_spread_given (hit_spread_answer (take states (table_of table.now)) counts.old) largest.old }
 {
-    give_hits(hit_spread_in(table, states, counts), largest)
+    give_count(
+        hit_spread_in(table, states, counts).map(|hits| hits.0),
+        largest,
+    )
 }

@@ -14,22 +14,19 @@ ghost use Rattle.estimate.specs.Call.{analysed, analysed_paired};
 ghost use Rattle.recorder.specs.Calls.{trace_read, trace_listed, trace_written};
 ghost use Rattle.nightly.specs.Call.{after_build};
 ghost use Rattle.printed.specs.Rooms.{after_numbers, after_text, after_cycles_of_numbers, after_cycles_of_text};
-ghost use Rattle.given.specs.Answers.{cache_given, amount_given, count_given, time_given};
-ghost use Rattle.estimate_c.specs.Given.{graph_given, listing_given, length_given, spread_given, read_given, counted_given, numbers_given, text_given, yes_given, nightly_given};
+ghost use Rattle.given.specs.Answers.{cache_given, amount_given, count_given};
+ghost use Rattle.estimate_c.specs.Given.{graph_given, listing_given, spread_given, read_given, counted_given, numbers_given, text_given, yes_given, nightly_given};
 
 use estimate::{analyse, analyse_paired};
-use given::{
-    bytes_of, cache_named, give_amount, give_count, give_outcome, give_reading, give_sizes,
-    give_time,
-};
+use given::{bytes_of, cache_named, give_count, give_outcome, give_reading, give_sizes};
 use listing::expand;
 use longest::longest_path;
-use nightly::{Built, build};
+use nightly::build;
 use questions::{above_cycles_in, above_in, smallest_budget_in, smallest_cycles_in, spread_in};
 use quick::within;
-use recorder::{Counted, list_damaged, read_trace, write_trace};
+use recorder::{list_damaged, read_trace, write_trace};
 use rows::{above, above_cycles, smallest_budget, smallest_cycles, spread};
-use rules::{Length, State};
+use rules::State;
 use text::{curve_of_numbers, curve_of_text, cycles_of_numbers, cycles_of_text};
 
 mod best_case;
@@ -113,7 +110,7 @@ pub extern "C" fn estimate_graph_paired(
 pub extern "C" fn estimate_above(table: &[u64], states: usize, budget: u64, units: &mut u64) -> u64
     ensures { record { number = result; value = units.new } ≡ amount_given (above_answer (take states (table_of table.now)) budget) units.old }
 {
-    give_amount(above_in(table, states, budget), units)
+    give_count(above_in(table, states, budget).map(|units| units.0), units)
 }
 
 // The smallest budget for an allowance.
@@ -167,22 +164,19 @@ pub extern "C" fn estimate_longest_path(
     edges: &[u32],
     longest: &mut u64,
 ) -> u64
-    ensures { record { number = result; value = longest.new } ≡ length_given (longest_answer (input_of (cache_given sets ways revision warm) limit tracked.now runs.now accesses.now edges.now)) longest.old }
+    ensures { record { number = result; value = longest.new } ≡ count_given (longest_answer (input_of (cache_given sets ways revision warm) limit tracked.now runs.now accesses.now edges.now)) longest.old }
 {
-    match longest_path(
-        cache_named(sets, ways, revision, warm),
-        limit,
-        tracked,
-        runs,
-        accesses,
-        edges,
-    ) {
-        Length::Accesses(found) => {
-            *longest = found;
-            0
-        }
-        Length::Refused(reason) => reason.number(),
-    }
+    give_count(
+        longest_path(
+            cache_named(sets, ways, revision, warm),
+            limit,
+            tracked,
+            runs,
+            accesses,
+            edges,
+        ),
+        longest,
+    )
 }
 
 // The units above a cycle budget.
@@ -197,7 +191,10 @@ pub extern "C" fn estimate_above_cycles(
 ) -> u64
     ensures { record { number = result; value = units.new } ≡ amount_given (above_cycles_answer (take states (table_of table.now)) core longest budget) units.old }
 {
-    give_amount(above_cycles_in(table, states, core, longest, budget), units)
+    give_count(
+        above_cycles_in(table, states, core, longest, budget).map(|units| units.0),
+        units,
+    )
 }
 
 // The smallest cycle budget for an allowance.
@@ -210,9 +207,9 @@ pub extern "C" fn estimate_smallest_cycles(
     allowance: u64,
     cycles: &mut u64,
 ) -> u64
-    ensures { record { number = result; value = cycles.new } ≡ time_given (cycle_budget_answer (take states (table_of table.now)) core longest allowance) cycles.old }
+    ensures { record { number = result; value = cycles.new } ≡ count_given (cycle_budget_answer (take states (table_of table.now)) core longest allowance) cycles.old }
 {
-    give_time(
+    give_count(
         smallest_cycles_in(table, states, core, longest, allowance),
         cycles,
     )
@@ -223,7 +220,7 @@ pub extern "C" fn estimate_smallest_cycles(
 pub extern "C" fn estimate_row_above(row: &[State], budget: u64, units: &mut u64) -> u64
     ensures { record { number = result; value = units.new } ≡ amount_given (above_answer row.now budget) units.old }
 {
-    give_amount(above(row, budget), units)
+    give_count(above(row, budget).map(|units| units.0), units)
 }
 
 // The smallest budget for an allowance.
@@ -257,7 +254,10 @@ pub extern "C" fn estimate_row_above_cycles(
 ) -> u64
     ensures { record { number = result; value = units.new } ≡ amount_given (above_cycles_answer row.now core longest budget) units.old }
 {
-    give_amount(above_cycles(row, core, longest, budget), units)
+    give_count(
+        above_cycles(row, core, longest, budget).map(|units| units.0),
+        units,
+    )
 }
 
 // The smallest cycle budget for an allowance.
@@ -269,9 +269,9 @@ pub extern "C" fn estimate_row_smallest_cycles(
     allowance: u64,
     cycles: &mut u64,
 ) -> u64
-    ensures { record { number = result; value = cycles.new } ≡ time_given (cycle_budget_answer row.now core longest allowance) cycles.old }
+    ensures { record { number = result; value = cycles.new } ≡ count_given (cycle_budget_answer row.now core longest allowance) cycles.old }
 {
-    give_time(smallest_cycles(row, core, longest, allowance), cycles)
+    give_count(smallest_cycles(row, core, longest, allowance), cycles)
 }
 
 // The accesses of a trace.
@@ -293,11 +293,11 @@ pub extern "C" fn estimate_trace_damaged(trace: &[u8], places: &mut [u64], count
     ensures { record { answer = record { number = result; value = count.new }; room = places.new } ≡ counted_given (trace_listed trace.now places.old) count.old }
 {
     match list_damaged(trace, places) {
-        Counted::Blocks(found) => {
+        Ok(found) => {
             *count = found;
             0
         }
-        Counted::Refused(reason) => reason.number(),
+        Err(reason) => reason.number(),
     }
 }
 
@@ -311,11 +311,11 @@ pub extern "C" fn estimate_trace_write(
     ensures { record { answer = record { number = result; value = blocks.new }; room = trace.new } ≡ counted_given (trace_written accesses.now trace.old) blocks.old }
 {
     match write_trace(accesses, trace) {
-        Counted::Blocks(found) => {
+        Ok(found) => {
             *blocks = found;
             0
         }
-        Counted::Refused(reason) => reason.number(),
+        Err(reason) => reason.number(),
     }
 }
 
@@ -359,7 +359,7 @@ pub extern "C" fn estimate_nightly(
     ensures { record { number = result; report = record { accepted = accepted.new; text = text.new; ways = ways.new; limit = limit.new; tracked = tracked.new; accesses = accesses.new; graph = graph.new; aside = aside.new }; rows = rows.new; work = work.new } ≡ nightly_given (after_build numbers.now allowance rows.old work.old) (record { accepted = accepted.old; text = text.old; ways = ways.old; limit = limit.old; tracked = tracked.old; accesses = accesses.old; graph = graph.old; aside = aside.old }) }
 {
     match build(numbers, allowance, rows, work) {
-        Built::Report(found) => {
+        Ok(found) => {
             *accepted = found.accepted;
             *text = found.text;
             *ways = found.ways;
@@ -370,7 +370,7 @@ pub extern "C" fn estimate_nightly(
             *aside = found.aside;
             0
         }
-        Built::Refused(reason) => reason.number(),
+        Err(reason) => reason.number(),
     }
 }
 

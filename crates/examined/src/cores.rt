@@ -25,10 +25,10 @@ const CORES: [Core; 12] = [
 
 // The core of a number below 12.
 pub(crate) fn core_of(number: usize) -> Core {
-    if number < 12 {
-        return CORES[number];
-    }
-    Core { hit: 0, miss: 0 }
+    CORES
+        .get(number)
+        .copied()
+        .unwrap_or(Core { hit: 0, miss: 0 })
 }
 
 // The cycles of `misses` misses, and of hits for the rest of the `accesses` accesses.

@@ -4,25 +4,23 @@ use crate::promises::{Path, Told, compare_units};
 use crate::report::Report;
 use crate::table::if_above;
 use questions::above_cycles_in;
-use rules::Amount;
+use rules::{Refusal, Units};
 use sequences::numbers::{TOO_LARGE, less, plus};
 
 // The units of an answer; where it is a refusal every comparison fails.
-fn units_of(answer: Amount) -> u64 {
+fn units_of(answer: Result<Units, Refusal>) -> u64 {
     match answer {
-        Amount::Units(units) => units.0,
-        Amount::Refused(_) => TOO_LARGE,
+        Ok(units) => units.0,
+        Err(_) => TOO_LARGE,
     }
 }
 
 // How many sequences of a path take more cycles than `budget`: `counts` has them by their misses, and the other accesses hit.
 fn sequences_above_cycles(counts: &[u64; 16], core: Core, accesses: u64, budget: u64) -> u64 {
     let mut above: u64 = 0;
-    let mut misses: usize = 0;
-    while misses < 16 {
+    for (misses, n) in counts.iter().enumerate() {
         let cycles = cycles_of(core, accesses, misses as u64);
-        above = plus(above, if_above(cycles, budget, counts[misses]));
-        misses += 1;
+        above = plus(above, if_above(cycles, budget, *n));
     }
     above
 }
@@ -53,12 +51,10 @@ fn hold_core(
 ) -> Report {
     let end = plus(path.accesses, 2);
     let mut done = compare_cycles(table, told, counts, path, core, 0, report);
-    let mut misses: u64 = 0;
-    while misses < end {
+    for misses in 0..end {
         let cycles = cycles_of(core_of(core), path.accesses, misses);
         let below = compare_cycles(table, told, counts, path, core, less(cycles, 1), done);
         done = compare_cycles(table, told, counts, path, core, cycles, below);
-        misses += 1;
     }
     done
 }
@@ -72,10 +68,8 @@ pub(crate) fn hold_cycles(
     report: Report,
 ) -> Report {
     let mut done = report;
-    let mut core: usize = 0;
-    while core < 12 {
+    for core in 0..12 {
         done = hold_core(table, told, counts, path, core, done);
-        core += 1;
     }
     done
 }

@@ -5,7 +5,7 @@ use crate::report::Report;
 use crate::row_calls::{longest, surest, worst};
 use crate::sure::{hold_best, number_of, states_of};
 use crate::table::total;
-use rules::{Outcome, Start, Units};
+use rules::{Finished, Refusal, Start, Units};
 use sequences::counts::{count_each, count_misses, sequences_in};
 use sequences::input::{accesses_of, all_tracked, cache_of, edges_of, nodes_of};
 use sequences::numbers::{WHOLE, power, read, wide};
@@ -74,10 +74,8 @@ fn examine_from(
 // The same path from an empty cache and from used ones: no more than safe is promised then, and nothing in the best case.
 fn examine_used(table: &[u64], told: Told, run: &[u32], report: Report) -> Report {
     let mut done = report;
-    let mut kind: u32 = 0;
-    while kind < 4 {
+    for kind in 0..4 {
         done = examine_from(kind, table, &[], told, run, false, done);
-        kind += 1;
     }
     done
 }
@@ -142,10 +140,8 @@ fn examine_set(
 fn examine_paths(table: &[u64], best: &[u64], told: Told, row: &[u32], report: Report) -> Report {
     let sets = sets_of(nodes_of(row));
     let mut done = report;
-    let mut chosen: u64 = 0;
-    while chosen < sets {
+    for chosen in 0..sets {
         done = examine_set(table, best, told, row, chosen, done);
-        chosen += 1;
     }
     done
 }
@@ -176,7 +172,7 @@ fn told_of(aside: Units, longest: u64) -> Told {
 
 // What a graph call answered and left in `res`, beside the best case's table.
 pub fn examine_answer(
-    answer: Outcome,
+    answer: Result<Finished, Refusal>,
     res: &[u64],
     best: &[u64],
     row: &[u32],
@@ -184,12 +180,12 @@ pub fn examine_answer(
     report: Report,
 ) -> Report {
     match answer {
-        Outcome::Finished(states, aside) => {
+        Ok(Finished { states, aside }) => {
             let few = report.compared(states <= limit as usize);
             let told = told_of(aside, longest(row, limit));
             examine_table(first_states(res, states), best, told, row, few)
         }
-        Outcome::Refused(_) => report.compared(false),
+        Err(_) => report.compared(false),
     }
 }
 

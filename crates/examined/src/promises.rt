@@ -56,18 +56,8 @@ fn compare_above(
 }
 
 // Exact: the units of a cell are its share of the sequences. Where there are neither, nothing is compared.
-fn compare_exact(
-    table: &[u64],
-    counts: &[u64; 256],
-    all: u64,
-    cell: usize,
-    report: Report,
-) -> Report {
-    if 255 < cell {
-        return report.compared(false);
-    }
+fn compare_exact(table: &[u64], sequences: u64, all: u64, cell: usize, report: Report) -> Report {
     let units = units_in(table, cell);
-    let sequences = counts[cell];
     if units == 0 {
         if sequences == 0 {
             return report;
@@ -86,10 +76,8 @@ pub(crate) fn hold_above(
 ) -> Report {
     let end = plus(path.accesses, 2);
     let mut done = report;
-    let mut budget: u64 = 0;
-    while budget < end {
+    for budget in 0..end {
         done = compare_above(table, aside, counts, path, budget, done);
-        budget += 1;
     }
     done
 }
@@ -97,10 +85,8 @@ pub(crate) fn hold_above(
 // Exact in every cell. A state outside all cells would be missing from the units' total, which is compared too.
 pub(crate) fn hold_exact(table: &[u64], counts: &[u64; 256], all: u64, report: Report) -> Report {
     let mut done = report;
-    let mut cell: usize = 0;
-    while cell < 256 {
-        done = compare_exact(table, counts, all, cell, done);
-        cell += 1;
+    for (cell, sequences) in counts.iter().enumerate() {
+        done = compare_exact(table, *sequences, all, cell, done);
     }
     done
 }

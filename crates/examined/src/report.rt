@@ -1,8 +1,7 @@
 // What was done so far.
-use basics::larger;
 use sequences::numbers::plus;
 
-#[derive(Clone, Copy)]
+#[derive(Clone, Copy, Default)]
 pub struct Report {
     // Graph calls.
     pub calls: u64,
@@ -18,57 +17,35 @@ pub struct Report {
 }
 
 pub fn nothing_yet() -> Report {
-    Report {
-        calls: 0,
-        paths: 0,
-        longest: 0,
-        sequences: 0,
-        comparisons: 0,
-        failed: 0,
-    }
+    Report::default()
 }
 
 impl Report {
     pub fn called(self) -> Report {
         Report {
             calls: plus(self.calls, 1),
-            paths: self.paths,
             longest: 0,
-            sequences: self.sequences,
-            comparisons: self.comparisons,
-            failed: self.failed,
+            ..self
         }
     }
 
     // A path of `accesses` accesses and `sequences` choice sequences was walked.
     pub(crate) fn walked(self, accesses: u64, sequences: u64) -> Report {
         Report {
-            calls: self.calls,
             paths: plus(self.paths, 1),
-            longest: larger(self.longest, accesses),
+            longest: self.longest.max(accesses),
             sequences: plus(self.sequences, sequences),
-            comparisons: self.comparisons,
-            failed: self.failed,
-        }
-    }
-
-    fn counted(self, failures: u64) -> Report {
-        Report {
-            calls: self.calls,
-            paths: self.paths,
-            longest: self.longest,
-            sequences: self.sequences,
-            comparisons: plus(self.comparisons, 1),
-            failed: plus(self.failed, failures),
+            ..self
         }
     }
 
     // A comparison, which held or failed.
     pub fn compared(self, held: bool) -> Report {
-        if held {
-            return self.counted(0);
+        Report {
+            comparisons: plus(self.comparisons, 1),
+            failed: plus(self.failed, u64::from(!held)),
+            ..self
         }
-        self.counted(1)
     }
 }
 

@@ -2,12 +2,12 @@
 use best::analyse_best;
 use estimate::analyse;
 use longest::longest_path;
-use rules::{BestOutcome, Length, Outcome};
+use rules::{Finished, Refusal};
 use sequences::input::{accesses_of, cache_of, edges_of, runs_of, tracked_of};
 use sequences::numbers::TOO_LARGE;
 
 // The graph call.
-pub fn worst(res: &mut [u64], row: &[u32], limit: u32) -> Outcome {
+pub fn worst(res: &mut [u64], row: &[u32], limit: u32) -> Result<Finished, Refusal> {
     let mut work: [u64; 25920] = [0; 25920];
     analyse(
         cache_of(row),
@@ -22,7 +22,7 @@ pub fn worst(res: &mut [u64], row: &[u32], limit: u32) -> Outcome {
 }
 
 // The best case's call, which is asked of an empty cache, however this one is found.
-pub(crate) fn surest(res: &mut [u64], row: &[u32], limit: u32) -> BestOutcome {
+pub(crate) fn surest(res: &mut [u64], row: &[u32], limit: u32) -> Result<usize, Refusal> {
     let mut work: [u64; 25920] = [0; 25920];
     let cache = cache_of(row);
     analyse_best(
@@ -40,10 +40,10 @@ pub(crate) fn surest(res: &mut [u64], row: &[u32], limit: u32) -> BestOutcome {
 }
 
 // The accesses of an answer; where it is a refusal, a number that no path has.
-fn accesses_said(answer: Length) -> u64 {
+fn accesses_said(answer: Result<u64, Refusal>) -> u64 {
     match answer {
-        Length::Accesses(accesses) => accesses,
-        Length::Refused(_) => TOO_LARGE,
+        Ok(accesses) => accesses,
+        Err(_) => TOO_LARGE,
     }
 }
 

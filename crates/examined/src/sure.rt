@@ -1,50 +1,53 @@
 // What the best case's table promises, held to the counted choice sequences of a path: five words a state (1 where it is exact, mask, misses, hits, units).
 use crate::promises::Path;
 use crate::report::Report;
-use crate::table::{if_above, word_of};
-use rules::BestOutcome;
+use crate::table::if_above;
+use rules::Refusal;
 use sequences::numbers::{WHOLE, at_most, less, plus};
 
-// The count that is looked at: hits, or misses.
-fn one_of(of_hits: bool, misses: u64, hits: u64) -> u64 {
-    if of_hits {
-        return hits;
+// The count that is looked at.
+#[derive(Clone, Copy)]
+enum Count {
+    Misses,
+    Hits,
+}
+
+impl Count {
+    fn of(self, misses: u64, hits: u64) -> u64 {
+        match self {
+            Count::Misses => misses,
+            Count::Hits => hits,
+        }
     }
-    misses
 }
 
 // The units with more of the count than `number`.
-fn units_over(best: &[u64], of_hits: bool, number: u64) -> u64 {
-    let states = best.len() / 5;
+fn units_over(best: &[u64], count: Count, number: u64) -> u64 {
     let mut units: u64 = 0;
-    let mut i: usize = 0;
-    while i < states {
-        let count = one_of(of_hits, word_of(best, i, 2), word_of(best, i, 3));
-        units = plus(units, if_above(count, number, word_of(best, i, 4)));
-        i += 1;
+    for state in best.chunks_exact(5) {
+        let counted = count.of(state[2], state[3]);
+        units = plus(units, if_above(counted, number, state[4]));
     }
     units
 }
 
 // How many choice sequences have more of the count than `number`: every access that does not miss hits. `totals` has how many have each miss count.
-fn sequences_over(totals: &[u64; 16], accesses: u64, of_hits: bool, number: u64) -> u64 {
+fn sequences_over(totals: &[u64; 16], accesses: u64, count: Count, number: u64) -> u64 {
     let mut over: u64 = 0;
-    let mut misses: usize = 0;
-    while misses < 16 {
-        let count = one_of(of_hits, misses as u64, less(accesses, misses as u64));
-        over = plus(over, if_above(count, number, totals[misses]));
-        misses += 1;
+    for (misses, n) in totals.iter().enumerate() {
+        let counted = count.of(misses as u64, less(accesses, misses as u64));
+        over = plus(over, if_above(counted, number, *n));
     }
     over
 }
 
 // Sure: the units with more of the count than `number` are at most the share of the sequences that have more.
-fn is_sure(best: &[u64], totals: &[u64; 16], path: Path, of_hits: bool, number: u64) -> bool {
+fn is_sure(best: &[u64], totals: &[u64; 16], path: Path, count: Count, number: u64) -> bool {
     at_most(
-        units_over(best, of_hits, number),
+        units_over(best, count, number),
         path.all,
         WHOLE,
-        sequences_over(totals, path.accesses, of_hits, number),
+        sequences_over(totals, path.accesses, count, number),
     )
 }
 
@@ -52,11 +55,9 @@ fn is_sure(best: &[u64], totals: &[u64; 16], path: Path, of_hits: bool, number: 
 fn hold_numbers(best: &[u64], totals: &[u64; 16], path: Path, report: Report) -> Report {
     let end = plus(path.accesses, 2);
     let mut done = report;
-    let mut number: u64 = 0;
-    while number < end {
-        let misses = done.compared(is_sure(best, totals, path, false, number));
-        done = misses.compared(is_sure(best, totals, path, true, number));
-        number += 1;
+    for number in 0..end {
+        let misses = done.compared(is_sure(best, totals, path, Count::Misses, number));
+        done = misses.compared(is_sure(best, totals, path, Count::Hits, number));
     }
     done
 }
@@ -70,17 +71,17 @@ pub(crate) fn hold_best(best: &[u64], totals: &[u64; 16], path: Path, report: Re
 }
 
 // The number of an answer.
-pub(crate) fn number_of(answer: BestOutcome) -> u64 {
+pub(crate) fn number_of(answer: Result<usize, Refusal>) -> u64 {
     match answer {
-        BestOutcome::Finished(_) => 0,
-        BestOutcome::Refused(why) => why.number(),
+        Ok(_) => 0,
+        Err(why) => why.number(),
     }
 }
 
 // How many states the best case's table has: none where it is refused.
-pub(crate) fn states_of(answer: BestOutcome) -> usize {
+pub(crate) fn states_of(answer: Result<usize, Refusal>) -> usize {
     match answer {
-        BestOutcome::Finished(states) => states,
-        BestOutcome::Refused(_) => 0,
+        Ok(states) => states,
+        Err(_) => 0,
     }
 }

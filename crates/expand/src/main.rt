@@ -3,7 +3,6 @@
 
 use front::write_front;
 use graphs::graph_of_text;
-use writing::Written;
 
 // The curve program's input for a text, in rooms of the sizes that are needed.
 fn write_graph(input: &[u8]) {
@@ -12,7 +11,7 @@ fn write_graph(input: &[u8]) {
     let mut accesses: [u32; 4096] = [0; 4096];
     let mut edges: [u32; 4032] = [0; 4032];
     let mut output: [u8; 262144] = [0; 262144];
-    match graph_of_text(
+    if let Some(n) = graph_of_text(
         input,
         &mut numbers,
         &mut runs,
@@ -20,8 +19,7 @@ fn write_graph(input: &[u8]) {
         &mut edges,
         &mut output,
     ) {
-        Written::Bytes(n) => write_front(&output, n),
-        Written::NoRoom => {}
+        write_front(&output, n);
     }
 }
 

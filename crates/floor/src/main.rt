@@ -5,8 +5,8 @@
 
 use best_questions::miss_spread_in;
 use parts::analyse_best_numbers;
-use reading::{Read, read_numbers};
-use rules::{BestOutcome, MissCount, Units};
+use reading::read_numbers;
+use rules::Units;
 
 // A word, and a number behind it.
 fn write_named(word: &[u8], n: u64) {
@@ -27,23 +27,13 @@ fn write_line(misses: u64, units: u64, least: u64) {
     io::write_all(1, b"\n");
 }
 
-// What is left without `units`, which are among them.
-fn without(left: u64, units: u64) -> u64 {
-    if left < units {
-        return 0;
-    }
-    left - units
-}
-
 // A line for each of the counts: what is left of WHOLE before a count is what stands there and above.
 fn write_lines(counts: &[u64]) {
     let whole = Units::WHOLE;
     let mut left = whole.0;
-    let mut misses: usize = 0;
-    while misses < counts.len() {
-        write_line(misses as u64, counts[misses], left);
-        left = without(left, counts[misses]);
-        misses += 1;
+    for (misses, units) in counts.iter().enumerate() {
+        write_line(misses as u64, *units, left);
+        left = left.saturating_sub(*units);
     }
 }
 
@@ -62,8 +52,8 @@ fn write_table(res: &[u64], states: usize) {
     write_named(b"states ", states as u64);
     io::write_all(1, b"\n");
     match miss_spread_in(res, states, &mut counts) {
-        MissCount::Largest(most) => write_counts(&counts, most.0),
-        MissCount::Refused(why) => write_refused(why.number()),
+        Ok(most) => write_counts(&counts, most.0),
+        Err(why) => write_refused(why.number()),
     }
 }
 
@@ -72,8 +62,8 @@ fn write_floor(numbers: &[u32]) {
     let mut result: [u64; 320] = [0; 320];
     let mut work: [u64; 25920] = [0; 25920];
     match analyse_best_numbers(1, 1, numbers, &mut result, &mut work) {
-        BestOutcome::Finished(states) => write_table(&result, states),
-        BestOutcome::Refused(why) => write_refused(why.number()),
+        Ok(states) => write_table(&result, states),
+        Err(why) => write_refused(why.number()),
     }
 }
 
@@ -87,8 +77,8 @@ fn write_front(numbers: &[u32], n: usize) {
 fn of_text(text: &[u8]) {
     let mut numbers: [u32; 16384] = [0; 16384];
     match read_numbers(text, &mut numbers) {
-        Read::Numbers(n) => write_front(&numbers, n),
-        Read::Nothing => write_refused(9),
+        Some(n) => write_front(&numbers, n),
+        None => write_refused(9),
     }
 }
 

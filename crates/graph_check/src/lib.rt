@@ -22,17 +22,11 @@ pub fn outside(low: u64, high: u64, n: u64) -> bool
 }
 
 // Whether `list` has `b`.
+#[tactic(auto, using(crate::proofs::Checks::among_any))]
 fn among(list: &[u32], b: u32) -> bool
     ensures { result ≡ among list.now b }
 {
-    let mut i: usize = 0;
-    while i < list.len() {
-        if list[i] == b {
-            return true;
-        }
-        i += 1;
-    }
-    false
+    list.contains(&b)
 }
 
 // Whether `sets` is one of the set counts that there are.
@@ -46,62 +40,44 @@ pub fn is_set_count(sets: u32) -> bool
 pub fn once(list: &[u32]) -> bool
     ensures { result ≡ once list.now }
 {
-    let mut i: usize = 0;
-    while i < list.len() {
-        let rest = i + 1;
-        if among(&list[rest..], list[i]) {
+    for (i, b) in list.iter().enumerate() {
+        if among(&list[i + 1..], *b) {
             return false;
         }
-        i = rest;
     }
     true
 }
 
 // The sum of the run lengths of at most 64 nodes, which cannot overflow.
+#[tactic(auto, using(crate::proofs::Checks::sums))]
 fn sum(list: &[u32]) -> u64
     requires { length list.now ≤ 64 }
     ensures { result ≡ sum_over (λ n. n) list.now }
 {
-    let mut s: u64 = 0;
-    let mut i: usize = 0;
-    while i < list.len() {
-        s += list[i] as u64;
-        i += 1;
-    }
-    s
+    list.iter().map(|n| u64::from(*n)).sum()
 }
 
 // Whether each edge leads from a lower node to a higher one, below the node count `n`.
 fn forward(edges: &[u32], n: usize) -> bool
     ensures { result ≡ forward n (edges_of edges.now) }
 {
-    let mut e: usize = 0;
-    while e + 1 < edges.len() {
-        if edges[e + 1] <= edges[e] {
-            return false;
-        }
-        if n <= edges[e + 1] as usize {
-            return false;
-        }
-        e += 2;
-    }
-    true
+    edges
+        .chunks_exact(2)
+        .all(|edge| edge[0] < edge[1] && (edge[1] as usize) < n)
 }
 
 // Whether each edge stands before the next: by where they lead, then by where they come from.
 fn rising(edges: &[u32]) -> bool
     ensures { result ≡ rises edge_order (edges_of edges.now) }
 {
-    let mut e: usize = 0;
-    while e + 3 < edges.len() {
-        if precedes(
-            edges[e + 1] as u64,
-            edges[e] as u64,
-            edges[e + 3] as u64,
-            edges[e + 2] as u64,
+    for e in 1..edges.len() / 2 {
+        let at = e * 2;
+        if !precedes(
+            edges[at - 1] as u64,
+            edges[at - 2] as u64,
+            edges[at + 1] as u64,
+            edges[at] as u64,
         ) {
-            e += 2;
-        } else {
             return false;
         }
     }
@@ -113,50 +89,25 @@ fn ends(edges: &[u32], side: usize, j: usize) -> bool
     requires { side ≤ 1 }
     ensures { result ≡ among (map (side_of side) (edges_of edges.now)) j }
 {
-    let mut e: usize = 0;
-    while e + 1 < edges.len() {
-        if edges[e + side] as usize == j {
-            return true;
-        }
-        e += 2;
-    }
-    false
+    edges.chunks_exact(2).any(|edge| edge[side] as usize == j)
 }
 
 // Whether each of the `n` nodes but node 0 has an edge in.
 fn has_edge_in(edges: &[u32], n: usize) -> bool
     ensures { result ≡ has_edge_in n (edges_of edges.now) }
 {
-    let mut j: usize = n;
-    while 1 < j {
-        if ends(edges, 1, j - 1) {
-            j -= 1;
-        } else {
-            return false;
-        }
-    }
-    true
+    (1..n).all(|j| ends(edges, 1, j))
 }
 
 // Whether each of the `n` nodes but the last has an edge out.
 fn has_edge_out(edges: &[u32], n: usize) -> bool
     ensures { result ≡ has_edge_out n (edges_of edges.now) }
 {
-    if n == 0 {
-        return true;
-    }
-    let mut j: usize = n - 1;
-    while 0 < j {
-        if ends(edges, 0, j - 1) {
-            j -= 1;
-        } else {
-            return false;
-        }
-    }
-    true
+    (1..n).all(|j| ends(edges, 0, j - 1))
 }
 
 // Whether the flat list of edges of a graph of `n` nodes keeps every edge rule.
+#[tactic(auto, using(crate::proofs::Checks::paired, crate::proofs::Checks::unpaired), unfolding(rules::specs::Refusals::edges_kept))]
 fn edges_kept(edges: &[u32], n: usize) -> bool
     ensures { result ≡ edges_kept n edges.now }
 {
@@ -192,13 +143,5 @@ pub fn graph_broken(runs: &[u32], accesses: usize, edges: &[u32]) -> bool
 pub fn all_tracked(tracked: &[u32], accesses: &[u32]) -> bool
     ensures { result ≡ all_tracked tracked.now accesses.now }
 {
-    let mut i: usize = 0;
-    while i < accesses.len() {
-        if among(tracked, accesses[i]) {
-            i += 1;
-        } else {
-            return false;
-        }
-    }
-    true
+    accesses.iter().all(|b| among(tracked, *b))
 }

@@ -8,11 +8,10 @@ use borrow.Author.Tests.{ltb-true, ltb-false, leb-true}
 use lib.Dec.{ltb, leb}
 use lib.ListN.{length, get_or, take, drop, replicate, length-append, length-take}
 use lib.Seq.{take_all, take-take}
+use Rattle.std.specs.Prelude.{Some, None, Err, Ok}
 use Rattle.basics.proofs.Bools.{and_left, and_right}
 use Rattle.rules.specs.declared.Refusal.{Refusal}
-use Rattle.rules.specs.declared.Verdict.{Verdict}
-use Rattle.rules.specs.declared.Verdict.TheVariants.{Accepted, Refused}
-use Rattle.rules.specs.Answers.{number_of}
+use Rattle.rules.specs.Answers.{number_of, Verdict}
 use Rattle.listing_form.specs.Reading.{listing_of, listing_in}
 use Rattle.listing.specs.Expansion.{Graph, graph_of, lengths, accesses, flat}
 use Rattle.listing.proofs.Sizes.{edges_by_nodes}
@@ -20,7 +19,6 @@ use Rattle.listing.proofs.Edges.{node_count}
 use Rattle.listing.proofs.Shows.{flat_long}
 use Rattle.listing.proofs.Calls.{Expanded, checked, graph_nodes, graph_accesses, graph_edges}
 use Rattle.curve_numbers.specs.Parts.{tracked_part}
-use Rattle.writing.specs.declared.Written.TheVariants.{Bytes, NoRoom}
 use Rattle.writing.specs.Put.{Put}
 use Rattle.writing.specs.Writing.{refused_line}
 use Rattle.writing.specs.Told.{told, accepts}
@@ -52,7 +50,7 @@ module _ (ns : List ℕ) (a : ℕ) (listed : Listed ns a) where
   unfolding listing_of_numbers
   printed = rw (listed.complete, listed.tracked, listed.tokens)
 
-  pub listing_refused : (why : Refusal) (n : ℕ) → n ≡ number_of why → tokens_verdict tokens ≡ Refused why
+  pub listing_refused : (why : Refusal) (n : ℕ) → n ≡ number_of why → tokens_verdict tokens ≡ Err why
       → refused_line n ≡ listing_of_numbers ns
   unfolding of_tokens
   listing_refused why n e h =
@@ -62,7 +60,7 @@ module _ (ns : List ℕ) (a : ℕ) (listed : Listed ns a) where
   unfolding numbers_expanded
   accepts_them = rw (listed.complete, listed.tokens)
 
-  pub refused_unexpanded : (why : Refusal) → tokens_verdict tokens ≡ Refused why → numbers_expanded ns ≡ false
+  pub refused_unexpanded : (why : Refusal) → tokens_verdict tokens ≡ Err why → numbers_expanded ns ≡ false
   refused_unexpanded why h = sym accepts_them ∙ ap accepts h
 
   pub shown_expanded : (n b e : ℕ) (rs bs es : List ℕ) → Expanded tokens n b e rs bs es → numbers_expanded ns ≡ true
@@ -99,7 +97,7 @@ pub record Small (g : Graph) : Type 0 where
   pub edges : length (flat g.edges) ≤ 168
   pub even : length (flat g.edges) ≡ length (flat g.edges) / 2 * 2
 
-pub graph_small : (ts : List ℕ) → tokens_verdict ts ≡ Accepted → Small (graph_of (listing_in (listing_of ts)))
+pub graph_small : (ts : List ℕ) → tokens_verdict ts ≡ Ok tt → Small (graph_of (listing_in (listing_of ts)))
 graph_small ts ok =
     let s = listing_in (listing_of ts) in
     let g = graph_of s in
@@ -181,14 +179,14 @@ graph_same expanded expanded' bs bs' e a b done p q =
 
 module _ (expanded : Bool) (bs : List ℕ) (short : length bs ≤ 262144) (numbers : List ℕ) (r : GraphRooms) where
   pub graph_none : enough_for_graph numbers r ≡ false
-      → record { answer = NoRoom; numbers = numbers; rooms = r } ≡ graph_written (enough_for_graph numbers r) expanded bs numbers r
+      → record { answer = None; numbers = numbers; rooms = r } ≡ graph_written (enough_for_graph numbers r) expanded bs numbers r
   graph_none h = rw h
 
   pub graph_all : enough_for_graph numbers r ≡ true → (e : ℕ) (ns ls bs' es o : List ℕ) → ns ≡ replicate (length numbers) 0
       → GraphWrote expanded bs e r (record { runs = ls; accesses = bs'; edges = es; output = o })
-      → record { answer = Bytes e; numbers = ns; rooms = record { runs = ls; accesses = bs'; edges = es; output = o } }
+      → record { answer = Some e; numbers = ns; rooms = record { runs = ls; accesses = bs'; edges = es; output = o } }
       ≡ graph_written (enough_for_graph numbers r) expanded bs numbers r
   graph_all h e ns ls bs' es o p done =
       let long = output_long (length numbers) (length r.runs) (length r.accesses) (length r.edges) (length r.output) h in
       let all = put_whole bs e r.output o done.put (omega (arith, short, long)) in
-      rw h (λ i. record { answer = Bytes (all i).end; numbers = p i; rooms = record { runs = done.runs i; accesses = done.accesses i; edges = done.edges i; output = (all i).room } })
+      rw h (λ i. record { answer = Some (all i).end; numbers = p i; rooms = record { runs = done.runs i; accesses = done.accesses i; edges = done.edges i; output = (all i).room } })

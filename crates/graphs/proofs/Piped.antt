@@ -1,5 +1,6 @@
 -- What the listing program writes is text that the curve program reads, and the input that it reads there is the graph of the listing: however many numbers the listing
 -- has, its graph has no more than 4,351, each of 10 digits at most.
+use Rattle.std.specs.Prelude.{Ok}
 use mathlib.Core.Path.{◌≡◌, refl, sym, ap, ◌∙◌}
 use mathlib.Core.Bool.{true, ◌&&◌}
 use mathlib.Core.List.{List, [], ◌∷◌, ◌++◌, map, append-nil, append_assoc, map-append}
@@ -10,7 +11,6 @@ use lib.Dec.{eqb, leb}
 use lib.ListN.{length, get_or, take, drop, length-append, length-take}
 use lib.Seq.{take_at, drop_at}
 use Rattle.basics.proofs.Bools.{and_left, and_right}
-use Rattle.rules.specs.declared.Verdict.TheVariants.{Accepted}
 use Rattle.rules.specs.Answers.{first}
 use Rattle.rules.specs.declared.Start.TheVariants.{Cold as cold}
 use Rattle.rules.specs.Input.{cache, input_of}
@@ -172,7 +172,7 @@ part_small P w [] h = (tt, tt)
 part_small P w (k ∷ ns) h = (every_take P (k * w) ns h.1, every_drop P (k * w) ns h.1)
 
 -- what it writes
-written : (bytes : List ℕ) → well_formed bytes ≡ true → listing_complete (numbers_in bytes) ≡ true → first (listing_reasons (listing_of (tokens_part (numbers_in bytes)).numbers) 64 4096 4032) ≡ Accepted
+written : (bytes : List ℕ) → well_formed bytes ≡ true → listing_complete (numbers_in bytes) ≡ true → first (listing_reasons (listing_of (tokens_part (numbers_in bytes)).numbers) 64 4096 4032) ≡ Ok tt
     → listing_of_text bytes ≡ input_text (get_or (numbers_in bytes) 0 0) (get_or (numbers_in bytes) 1 0) (tracked_part (numbers_in bytes)).numbers (graph_of (listing_in (listing_of (tokens_part (numbers_in bytes)).numbers)))
 unfolding of_text listing_of_numbers of_tokens
 written bytes formed is_complete ok = rw (formed, is_complete, ok)
@@ -183,7 +183,7 @@ pub piped : (bytes : List ℕ) → well_formed bytes ≡ true
     → let all = numbers_in bytes in
     listing_complete all ≡ true
     → let read = listing_of (tokens_part all).numbers in
-    first (listing_reasons read 64 4096 4032) ≡ Accepted
+    first (listing_reasons read 64 4096 4032) ≡ Ok tt
     → let g = graph_of (listing_in read) in
     let text = listing_of_text bytes in
     (well_formed text ≡ true)

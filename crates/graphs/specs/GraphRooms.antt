@@ -1,7 +1,5 @@
 -- What a call for the graph of a listing's text leaves: its answer, and the rooms that were lent.
-use Rattle.std.specs.Prelude.{◌≡◌, Bool, true, false, ◌&&◌, List, ◌++◌, ℕ, leb, length, drop, replicate}
-use Rattle.writing.specs.declared.Written.{Written}
-use Rattle.writing.specs.declared.Written.TheVariants.{Bytes, NoRoom}
+use Rattle.std.specs.Prelude.{◌≡◌, Bool, true, false, ◌&&◌, List, ◌++◌, ℕ, leb, length, drop, replicate, Option, Some, None}
 use Rattle.writing.specs.Put.{Put}
 use Rattle.writing.specs.Told.{zero_if}
 use Rattle.graphs.specs.Listings.{listing_of_text, text_expanded}
@@ -21,9 +19,9 @@ room_for_graph numbers runs accesses edges output = leb 16384 numbers && leb 64 
 abbrev pub enough_for_graph : List ℕ → GraphRooms → Bool
 enough_for_graph numbers r = room_for_graph (length numbers) (length r.runs) (length r.accesses) (length r.edges) (length r.output)
 
--- the answer, the room for numbers and the other rooms then
+-- the answer, how many bytes were written, or None because a room is too short; the room for numbers and the other rooms then
 pub record GraphWritten : Type 0 where
-  pub answer : Written
+  pub answer : Option ℕ
   pub numbers : List ℕ
   pub rooms : GraphRooms
 
@@ -32,7 +30,7 @@ pub record GraphWritten : Type 0 where
 abbrev pub graph_written : Bool → Bool → List ℕ → List ℕ → GraphRooms → GraphWritten
 graph_written true expanded text numbers r =
     record {
-      answer = Bytes (length text);
+      answer = Some (length text);
       numbers = replicate (length numbers) 0;
       rooms = record {
         runs = zero_if expanded r.runs;
@@ -41,7 +39,7 @@ graph_written true expanded text numbers r =
         output = text ++ drop (length text) r.output;
       };
     }
-graph_written false expanded text numbers r = record { answer = NoRoom; numbers = numbers; rooms = r }
+graph_written false expanded text numbers r = record { answer = None; numbers = numbers; rooms = r }
 
 -- after a listing's text
 unfoldable pub after_listing : List ℕ → List ℕ → GraphRooms → GraphWritten

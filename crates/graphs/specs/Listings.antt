@@ -1,8 +1,7 @@
 -- The text of a listing, and the curve program's input that it becomes: document 02, request 8/13.
 use Rattle.std.specs.Prelude.{Bool, cond, ◌&&◌, List, [], ◌∷◌, ◌++◌, ℕ, ◌/◌, eqb, leb, length, get_or, take}
 use Rattle.rules.specs.declared.Refusal.TheVariants.{Text}
-use Rattle.rules.specs.declared.Verdict.{Verdict}
-use Rattle.rules.specs.Answers.{number_of, first}
+use Rattle.rules.specs.Answers.{number_of, first, Verdict}
 use Rattle.listing_form.specs.Reading.{listing_of, listing_in}
 use Rattle.listing.specs.Expansion.{Graph, graph_of, lengths, accesses, flat}
 use Rattle.listing.specs.Call.{listing_reasons}

@@ -8,11 +8,11 @@ ghost use Rattle.writing.specs.Writing.{numbers_line};
 ghost use Rattle.graphs.specs.Listings.{input_lines, listing_of_numbers, listing_of_text, numbers_expanded, text_expanded};
 ghost use Rattle.graphs.specs.GraphRooms.{room_for_graph, GraphWrote, after_listing};
 
-use basics::clear_numbers;
 use curve_numbers::end_of;
-use listing::{Expansion, expand};
-use reading::{Read, read_numbers};
-use writing::{Written, put_entry, put_numbers_line, put_refused};
+use listing::{GraphSize, expand};
+use reading::read_numbers;
+use rules::Refusal;
+use writing::{put_entry, put_numbers_line, put_refused};
 
 // The curve program's input for the text of a listing, at the front of `output`. What was worked in is zero then; a refusal, which is a line too, leaves it as it was
 // but for `numbers`, which is zero. Long enough are 16,384 numbers, 64 run lengths, 4,096 accesses, 4,032 numbers of edges, and an output of 262,144 bytes.
@@ -23,7 +23,7 @@ pub fn graph_of_text(
     accesses: &mut [u32],
     edges: &mut [u32],
     output: &mut [u8],
-) -> Written
+) -> Option<usize>
     ensures { record { answer = result; numbers = numbers.new; rooms = record { runs = runs.new; accesses = accesses.new; edges = edges.new; output = output.new } } ≡ after_listing text.now numbers.old (record { runs = runs.old; accesses = accesses.old; edges = edges.old; output = output.old }) }
 {
     if !room_for_graph(
@@ -33,11 +33,11 @@ pub fn graph_of_text(
         edges.len(),
         output.len(),
     ) {
-        return Written::NoRoom;
+        return None;
     }
     let end = put_listed_text(text, numbers, runs, accesses, edges, output);
-    clear_numbers(numbers);
-    Written::Bytes(end)
+    numbers.fill(0);
+    Some(end)
 }
 
 // Whether rooms of so many numbers and bytes are long enough.
@@ -72,8 +72,8 @@ fn put_listed_text(
     ensures { GraphWrote (text_expanded text.now) (listing_of_text text.now) result (record { runs = runs.old; accesses = accesses.old; edges = edges.old; output = output.old }) (record { runs = runs.new; accesses = accesses.new; edges = edges.new; output = output.new }) }
 {
     match read_numbers(text, numbers) {
-        Read::Nothing => put_refused(output, 9),
-        Read::Numbers(n) => put_listed(&numbers[..n], runs, accesses, edges, output),
+        None => put_refused(output, 9),
+        Some(n) => put_listed(&numbers[..n], runs, accesses, edges, output),
     }
 }
 
@@ -93,10 +93,8 @@ fn put_listed(
         return put_refused(output, 9);
     }
     match expand_from(numbers, first, runs, accesses, edges) {
-        Expansion::Refused(why) => put_refused(output, why.number()),
-        Expansion::Graph(nodes, many, links) => put_expanded(
-            numbers, first, nodes, many, links, runs, accesses, edges, output,
-        ),
+        Err(why) => put_refused(output, why.number()),
+        Ok(size) => put_expanded(numbers, first, size, runs, accesses, edges, output),
     }
 }
 
@@ -107,7 +105,7 @@ fn expand_from(
     runs: &mut [u32],
     accesses: &mut [u32],
     edges: &mut [u32],
-) -> Expansion
+) -> Result<GraphSize, Refusal>
     requires { first < length numbers.now }
     ensures { record { answer = result; runs = runs.new; accesses = accesses.new; edges = edges.new } ≡ after_expanding (take (length numbers.now - (first + 1)) (drop (first + 1) numbers.now)) runs.old accesses.old edges.old }
 {
@@ -118,29 +116,27 @@ fn expand_from(
 fn put_expanded(
     numbers: &[u32],
     first: usize,
-    nodes: usize,
-    many: usize,
-    links: usize,
+    size: GraphSize,
     runs: &mut [u32],
     accesses: &mut [u32],
     edges: &mut [u32],
     output: &mut [u8],
 ) -> usize
-    requires { (3 ≤ first) × (first ≤ length numbers.now) × (nodes ≤ length runs.old) × (many ≤ length accesses.old) × (links * 2 ≤ length edges.old) }
-    ensures { GraphWrote true (input_lines (get_or numbers.now 0 0) (get_or numbers.now 1 0) (take (min 20 first - 3) (drop 3 numbers.now)) (take nodes runs.old) (take many accesses.old) (take (links * 2) edges.old)) result (record { runs = runs.old; accesses = accesses.old; edges = edges.old; output = output.old }) (record { runs = runs.new; accesses = accesses.new; edges = edges.new; output = output.new }) }
+    requires { (3 ≤ first) × (first ≤ length numbers.now) × (size.nodes ≤ length runs.old) × (size.accesses ≤ length accesses.old) × (size.edges * 2 ≤ length edges.old) }
+    ensures { GraphWrote true (input_lines (get_or numbers.now 0 0) (get_or numbers.now 1 0) (take (min 20 first - 3) (drop 3 numbers.now)) (take size.nodes runs.old) (take size.accesses accesses.old) (take (size.edges * 2) edges.old)) result (record { runs = runs.old; accesses = accesses.old; edges = edges.old; output = output.old }) (record { runs = runs.new; accesses = accesses.new; edges = edges.new; output = output.new }) }
 {
     let last = last_shown(first);
     let end = put_graph(
         numbers,
         last,
-        &runs[..nodes],
-        &accesses[..many],
-        &edges[..links * 2],
+        &runs[..size.nodes],
+        &accesses[..size.accesses],
+        &edges[..size.edges * 2],
         output,
     );
-    clear_numbers(runs);
-    clear_numbers(accesses);
-    clear_numbers(edges);
+    runs.fill(0);
+    accesses.fill(0);
+    edges.fill(0);
     end
 }
 

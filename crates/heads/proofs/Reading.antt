@@ -1,4 +1,5 @@
 -- What a head says is what it was made of: each part of the number has room for what it says.
+use Rattle.std.specs.Prelude.{None, Some}
 use mathlib.Core.Path.{◌≡◌, refl, sym, ap, ◌∙◌}
 use mathlib.Core.Logic.{◌≢◌}
 use mathlib.Core.Bool.{Bool, true, false, cond, ◌&&◌, true≢false}
@@ -11,9 +12,7 @@ use lib.Dec.{eqb, ltb}
 use lib.Pow.{pow_mono, pow_pos}
 use borrow.Author.Tests.{lt-ltb, le-ltb, eq-eqb, ne_eqb}
 use Rattle.basics.proofs.Bools.{and_left}
-use Rattle.rules.specs.declared.Place.{Place}
-use Rattle.rules.specs.declared.Place.TheVariants.{At as at, Untracked as untracked}
-use Rattle.rules.specs.Contents.{bit, with, without}
+use Rattle.rules.specs.Contents.{bit, with, without, Place}
 use Rattle.rules.proofs.Bits.{bit_low, bit_rest, bit_and_lem, bit_pow, bit_zero, bit_beyond, bits_same}
 use Rattle.tables.specs.Following.{top_held}
 use Rattle.tables.proofs.Places.{top_held_lem}
@@ -154,8 +153,8 @@ less_left L k e = omega (arith, xor_add_and L (2 ^ k), one, pow_pos k)
 
 or_own : (C : ℕ) (p : Place) → bit_or C (with 0 p) ≡ with C p
 unfolding with
-or_own C (at i) = ap (bit_or C) (or_zero_l (2 ^ i))
-or_own C untracked = or_zero_r C
+or_own C (Some i) = ap (bit_or C) (or_zero_l (2 ^ i))
+or_own C None = or_zero_r C
 
 pub contents_with : (C : ℕ) (p : Place) (k : ℕ) → contents_at C (with 0 p) k ≡ cond (ltb k 16) (with (without C k) p) (with C p)
 unfolding contents_at

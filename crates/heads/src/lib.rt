@@ -116,15 +116,13 @@ pub fn insert_head(heads: &mut [u64], count: usize, head: u64)
     if heads.len() <= count {
         return;
     }
-    let mut j = count;
-    while 0 < j {
-        let other = heads[j - 1];
+    for j in (0..count).rev() {
+        let other = heads[j];
         if other < head {
-            heads[j] = head;
+            heads[j + 1] = head;
             return;
         }
-        heads[j] = other;
-        j -= 1;
+        heads[j + 1] = other;
     }
     heads[0] = head;
 }
@@ -145,6 +143,7 @@ pub fn move_on(heads: &mut [u64], at: usize, head: u64)
     }
     let mut j = at;
     let mut other = heads[j + 1];
+    // As far as heads before it stand there; the last one, tested above, ends it: the place itself is never tested.
     while other < head {
         heads[j] = other;
         j += 1;

@@ -42,10 +42,8 @@ pub(crate) fn each_core(room: &mut [u8], at: usize, counts: &[u64], longest: u32
     ensures { Put (lines_below (core_counts longest counts.now) 12) at result room.old room.new }
 {
     let mut end = at;
-    let mut number: usize = 0;
-    while number < 12 {
+    for number in 0..12 {
         end = put_core(room, end, number, counts, longest);
-        number += 1;
     }
     end
 }

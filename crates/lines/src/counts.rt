@@ -8,16 +8,6 @@ ghost use Rattle.lines.specs.Counts.{count_lines};
 use rules::Units;
 use writing::put_entry;
 
-// a - b, and 0 where `b` is the larger.
-fn less(a: u64, b: u64) -> u64
-    ensures { result ≡ a - b }
-{
-    if a < b {
-        return 0;
-    }
-    a - b
-}
-
 // A line of a curve: `misses` or the cycles that they stand for, units there, units above.
 fn put_line(room: &mut [u8], at: usize, misses: u64, units: u64, above: u64) -> usize
     ensures { Put (count_line misses units above) at result room.old room.new }
@@ -35,11 +25,9 @@ pub(crate) fn put_lines(room: &mut [u8], at: usize, counts: &[u64], first: u64, 
     let whole = Units::WHOLE;
     let mut left = whole.0;
     let mut end = at;
-    let mut m: usize = 0;
-    while m < counts.len() {
-        left = less(left, counts[m]);
-        end = put_line(room, end, first + m as u64 * step, counts[m], left);
-        m += 1;
+    for (m, units) in counts.iter().enumerate() {
+        left = left.saturating_sub(*units);
+        end = put_line(room, end, first + m as u64 * step, *units, left);
     }
     end
 }

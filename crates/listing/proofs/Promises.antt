@@ -1,5 +1,6 @@
 -- The promises of request 8/13, each under the sentence that says it in words. c, K, ts, r and w stand for whatever else document 01's graph call is
 -- handed: cache, state limit, tracked blocks and the two rooms.
+use Rattle.std.specs.Prelude.{Err, Ok}
 use mathlib.Core.Path.{◌≡◌, refl, sym, ap, subst, ◌∙◌}
 use mathlib.Core.Logic.{◌↔◌, ◌≢◌}
 use mathlib.Core.Bool.{Bool, true, false, not, ◌||◌, ◌&&◌, true≢false}
@@ -13,9 +14,7 @@ use Rattle.basics.specs.Sums.{sum_over}
 use Rattle.basics.proofs.Bools.{both, or_left, neither, not_right}
 use Rattle.machine.specs.Draws.{count}
 use Rattle.rules.specs.declared.Cache.{Cache}
-use Rattle.rules.specs.declared.Verdict.{Verdict}
-use Rattle.rules.specs.declared.Verdict.TheVariants.{Accepted, Refused}
-use Rattle.rules.specs.Answers.{number_of, Reason, first, verdict_says, outcome_says}
+use Rattle.rules.specs.Answers.{number_of, Reason, first, verdict_says, outcome_says, Verdict}
 use Rattle.rules.specs.Cycles.{cores, core_at, above_cycles}
 use Rattle.rules.specs.Graph.{finished}
 use Rattle.rules.specs.Input.{Input, nodes}
@@ -69,8 +68,8 @@ not_given n z (r ∷ rs) h e = go r.applies h (not_given n z rs) e
     go false h rest e = rest (not_right (eqb (number_of r.gives) n && false) (given n rs) h) e
 
 number_is : (v : Verdict) (i : Input) → (outcome_says (answered v i)).number ≡ verdict_says v
-number_is Accepted i = refl
-number_is (Refused r) i = refl
+number_is (Ok tt) i = refl
+number_is (Err r) i = refl
 
 module _ (i : Input) (few : ltb 4096 (length i.accesses) ≡ false)
     (kept : (outside 1 64 (nodes i) || not (eqb (sum_over (λ n. n) i.lengths) (length i.accesses)) || not (edges_kept (nodes i) i.edges)) ≡ false) where

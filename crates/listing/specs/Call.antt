@@ -1,11 +1,9 @@
 -- What a call leaves: its answer, and the three rooms that were lent for the graph.
-use Rattle.std.specs.Prelude.{◌||◌, List, [], ◌∷◌, ◌++◌, ℕ, ◌-◌, ltb, length, replicate}
+use Rattle.std.specs.Prelude.{◌||◌, List, [], ◌∷◌, ◌++◌, ℕ, ◌-◌, ltb, length, replicate, Result, Ok, Err}
+use Rattle.rules.specs.declared.Refusal.{Refusal}
 use Rattle.rules.specs.declared.Refusal.TheVariants.{ListingRoom, Listing as NoListing, Expansion as TooLarge}
-use Rattle.rules.specs.declared.Verdict.{Verdict}
-use Rattle.rules.specs.declared.Verdict.TheVariants.{Accepted, Refused}
-use Rattle.rules.specs.Answers.{number_of, Reason, when, first}
-use Rattle.listing.specs.declared.Expansion.{Expansion}
-use Rattle.listing.specs.declared.Expansion.TheVariants.{Graph as GraphOf, Refused as RefusedExpansion}
+use Rattle.rules.specs.Answers.{number_of, Reason, when, first, Verdict}
+use Rattle.listing.specs.declared.GraphSize.{GraphSize}
 use Rattle.listing_form.specs.Reading.{Reading, listing_of, is_broken, listing_in}
 use Rattle.listing.specs.Expansion.{Graph, graph_of, runs, lengths, accesses, flat}
 
@@ -17,13 +15,13 @@ pub record ExpansionSays : Type 0 where
   pub edges : ℕ
 
 -- of an answer
-abbrev pub expansion_says : Expansion → ExpansionSays
-expansion_says (GraphOf n b e) = record { number = 0; nodes = n; accesses = b; edges = e }
-expansion_says (RefusedExpansion r) = record { number = number_of r; nodes = 0; accesses = 0; edges = 0 }
+abbrev pub expansion_says : Result GraphSize Refusal → ExpansionSays
+expansion_says (Ok g) = record { number = 0; nodes = g.nodes; accesses = g.accesses; edges = g.edges }
+expansion_says (Err r) = record { number = number_of r; nodes = 0; accesses = 0; edges = 0 }
 
 -- the answer, and the three rooms
 pub record ExpandingLeft : Type 0 where
-  pub answer : Expansion
+  pub answer : Result GraphSize Refusal
   pub runs : List ℕ
   pub accesses : List ℕ
   pub edges : List ℕ
@@ -44,14 +42,14 @@ at_front n xs = xs ++ replicate (n - length xs) 0
 
 -- the graph in the rooms, and the answer its nodes, accesses and edges; or a refusal, and the rooms as they were
 abbrev pub expanding_leaves : Verdict → Graph → List ℕ → List ℕ → List ℕ → ExpandingLeft
-expanding_leaves Accepted g ns bs es =
+expanding_leaves (Ok tt) g ns bs es =
     record {
-      answer = GraphOf (length (runs g)) (length (accesses g)) (length g.edges);
+      answer = Ok (record { nodes = length (runs g); accesses = length (accesses g); edges = length g.edges });
       runs = at_front (length ns) (lengths g);
       accesses = at_front (length bs) (accesses g);
       edges = at_front (length es) (flat g.edges);
     }
-expanding_leaves (Refused r) g ns bs es = record { answer = RefusedExpansion r; runs = ns; accesses = bs; edges = es }
+expanding_leaves (Err r) g ns bs es = record { answer = Err r; runs = ns; accesses = bs; edges = es }
 
 -- the tokens ts, and rooms for run lengths, accesses and edges
 unfoldable pub after_expanding : List ℕ → List ℕ → List ℕ → List ℕ → ExpandingLeft

@@ -105,6 +105,7 @@ pub(crate) fn write_sequence(
         at: at,
         standing: from,
     };
+    // From item to item: each ends where its own tokens say.
     while begins_item(tokens, p.at) {
         let so_far = p.standing;
         p = write_item(tokens, p.at, so_far, runs, accesses, edges);
@@ -226,11 +227,9 @@ fn write_rounds(
     ensures { rooms_of result runs.new accesses.new edges.new ≡ times count (written (listing_in (sequence_at tokens.now at))) (rooms_of from runs.old accesses.old edges.old) }
 {
     let mut s = from;
-    let mut round: u32 = 0;
-    while round < count {
+    for round in 0..count {
         let end = write_sequence(tokens, at, s, runs, accesses, edges);
         s = end.standing;
-        round += 1;
     }
     s
 }

@@ -3,47 +3,46 @@
 
 mod emitting;
 
-ghost use Rattle.std.specs.Prelude.{◌≡◌, length};
-ghost use Rattle.rules.specs.declared.Verdict.TheVariants.{Accepted};
+ghost use Rattle.std.specs.Prelude.{◌≡◌, length, Ok};
 ghost use Rattle.rules.specs.Answers.{first};
 ghost use Rattle.listing_form.specs.Reading.{listing_of};
 ghost use Rattle.listing.specs.Call.{listing_reasons, after_expanding};
 
 use crate::emitting::{Standing, write_sequence};
-use basics::clear_numbers;
-use listing_form::{Counted, count_listing};
-use rules::{Refusal, Verdict};
+use listing_form::count_listing;
+use rules::Refusal;
 
-// How many nodes, accesses and edges the graph has; or a refusal.
+// How many nodes, accesses and edges the graph has.
 #[derive(Clone, Copy)]
-pub enum Expansion {
-    Graph(usize, usize, usize),
-    Refused(Refusal),
+pub struct GraphSize {
+    pub nodes: usize,
+    pub accesses: usize,
+    pub edges: usize,
 }
 
 // The first reason to refuse, with room for so many run lengths, accesses and numbers of edges.
-fn judge(tokens: &[u32], runs: usize, accesses: usize, edges: usize) -> Verdict
+fn judge(tokens: &[u32], runs: usize, accesses: usize, edges: usize) -> Result<(), Refusal>
     ensures { result ≡ first (listing_reasons (listing_of tokens.now) runs accesses edges) }
 {
     if runs < 64 {
-        return Verdict::Refused(Refusal::ListingRoom);
+        return Err(Refusal::ListingRoom);
     }
     if accesses < 4096 {
-        return Verdict::Refused(Refusal::ListingRoom);
+        return Err(Refusal::ListingRoom);
     }
     if edges < 4032 {
-        return Verdict::Refused(Refusal::ListingRoom);
+        return Err(Refusal::ListingRoom);
     }
-    let Counted::Found(size) = count_listing(tokens) else {
-        return Verdict::Refused(Refusal::Listing);
+    let Some(size) = count_listing(tokens) else {
+        return Err(Refusal::Listing);
     };
     if 63 < size.nodes {
-        return Verdict::Refused(Refusal::Expansion);
+        return Err(Refusal::Expansion);
     }
     if 4096 < size.accesses {
-        return Verdict::Refused(Refusal::Expansion);
+        return Err(Refusal::Expansion);
     }
-    Verdict::Accepted
+    Ok(())
 }
 
 // The graph is written to the front of cleared rooms: nothing is refused.
@@ -52,13 +51,13 @@ fn write_graph(
     runs: &mut [u32],
     accesses: &mut [u32],
     edges: &mut [u32],
-) -> Expansion
-    requires { Accepted ≡ first (listing_reasons (listing_of tokens.now) (length runs.old) (length accesses.old) (length edges.old)) }
-    ensures { record { answer = result; runs = runs.new; accesses = accesses.new; edges = edges.new } ≡ after_expanding tokens.now runs.old accesses.old edges.old }
+) -> GraphSize
+    requires { Ok tt ≡ first (listing_reasons (listing_of tokens.now) (length runs.old) (length accesses.old) (length edges.old)) }
+    ensures { record { answer = Ok result; runs = runs.new; accesses = accesses.new; edges = edges.new } ≡ after_expanding tokens.now runs.old accesses.old edges.old }
 {
-    clear_numbers(runs);
-    clear_numbers(accesses);
-    clear_numbers(edges);
+    runs.fill(0);
+    accesses.fill(0);
+    edges.fill(0);
     let start = Standing {
         nodes: 1,
         accesses: 0,
@@ -67,7 +66,11 @@ fn write_graph(
     };
     let end = write_sequence(tokens, 0, start, runs, accesses, edges);
     let all = end.standing;
-    Expansion::Graph(all.nodes, all.accesses, all.edges)
+    GraphSize {
+        nodes: all.nodes,
+        accesses: all.accesses,
+        edges: all.edges,
+    }
 }
 
 // The graph of a listing: the run lengths, the accesses and the edges go to the front of their rooms, which have to have room for 64, 4,096 and 2,016 (two
@@ -77,11 +80,9 @@ pub fn expand(
     runs: &mut [u32],
     accesses: &mut [u32],
     edges: &mut [u32],
-) -> Expansion
+) -> Result<GraphSize, Refusal>
     ensures { record { answer = result; runs = runs.new; accesses = accesses.new; edges = edges.new } ≡ after_expanding tokens.now runs.old accesses.old edges.old }
 {
-    match judge(tokens, runs.len(), accesses.len(), edges.len()) {
-        Verdict::Refused(reason) => Expansion::Refused(reason),
-        Verdict::Accepted => write_graph(tokens, runs, accesses, edges),
-    }
+    judge(tokens, runs.len(), accesses.len(), edges.len())?;
+    Ok(write_graph(tokens, runs, accesses, edges))
 }

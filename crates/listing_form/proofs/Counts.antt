@@ -10,11 +10,10 @@ use lib.Dec.{eqb, ltb}
 use lib.ListN.{length, get_or, drop, length-append, length-drop, get_or-eq_default, drop_of_length-le}
 use lib.Seq.{drop-cons, drop-drop, drop_at}
 use borrow.Author.Tests.{eq-eqb, ne_eqb, lt-ltb, le-ltb, ltb-true, ltb-false}
+use Rattle.std.specs.Prelude.{Option, Some, None}
 use Rattle.basics.proofs.Bools.{or_right, neither}
 use Rattle.rules.specs.Refusals.{outside}
 use Rattle.listing_form.specs.declared.Size.{Size}
-use Rattle.listing_form.specs.declared.Counted.{Counted}
-use Rattle.listing_form.specs.declared.Counted.TheVariants.{Found, Broken}
 use Rattle.listing_form.specs.Listing.{Listing, end, access, branch, loop, tokens, followed_by}
 use Rattle.listing_form.specs.Reading.{Reading, found, broken, Kind, an_access, a_branch, a_loop, nothing, kind_of, and_then, closed, item, onwards, sequence_in, to_the_end, listing_of}
 use Rattle.listing_form.specs.Reading as Read
@@ -94,8 +93,8 @@ pub record Seen (ts : List ℕ) (at : ℕ) (r : Reading) (z : Size) : Type 0 whe
   pub nodes : z.nodes ≡ capped (nodes_in read)
   pub accesses : z.accesses ≡ capped (accesses_in read)
 
-pub seen : (ts : List ℕ) (at d : ℕ) → at ≤ length ts → (r : Reading) → Holds (Said d (drop at ts)) r → (c : Counted) → c ≡ count_of (length ts) r
-    → (z : Size) → c ≡ Found z → Seen ts at r z
+pub seen : (ts : List ℕ) (at d : ℕ) → at ≤ length ts → (r : Reading) → Holds (Said d (drop at ts)) r → (c : Option Size) → c ≡ count_of (length ts) r
+    → (z : Size) → c ≡ Some z → Seen ts at r z
 seen ts at d l broken h c e z f = let x : ◌≡◌ {A = ℕ} 0 1 = cc in absurd (omega arith)
 seen ts at d l (found s us) h c e z f =
     let k = length (tokens s) in
@@ -112,7 +111,7 @@ seen ts at d l (found s us) h c e z f =
       accesses = ap (λ z. z.accesses) same;
     }
 
-pub unseen : (n : ℕ) (r : Reading) (c : Counted) → c ≡ count_of n r → c ≡ Broken → r ≡ broken
+pub unseen : (n : ℕ) (r : Reading) (c : Option Size) → c ≡ count_of n r → c ≡ None → r ≡ broken
 unseen n broken c e f = refl
 unseen n (found s us) c e f = let x : ◌≡◌ {A = ℕ} 0 1 = cc in absurd (omega arith)
 
@@ -120,12 +119,12 @@ unseen n (found s us) c e f = let x : ◌≡◌ {A = ℕ} 0 1 = cc in absurd (om
 abbrev pub SeenSequence : List ℕ → ℕ → ℕ → Size → Type 0
 SeenSequence ts at d z = Seen ts at (sequence_in d (drop at ts)) z
 
-pub seen_sequence : (ts : List ℕ) (at d : ℕ) → at ≤ length ts → (c : Counted) → c ≡ count_of (length ts) (sequence_in d (drop at ts)) → (z : Size) → c ≡ Found z → SeenSequence ts at d z
+pub seen_sequence : (ts : List ℕ) (at d : ℕ) → at ≤ length ts → (c : Option Size) → c ≡ count_of (length ts) (sequence_in d (drop at ts)) → (z : Size) → c ≡ Some z → SeenSequence ts at d z
 seen_sequence ts at d l c e z f = seen ts at d l (sequence_in d (drop at ts)) (in_said d (drop at ts)) c e z f
 
 -- a size, made of what is behind a place that is not past the end
 size_at : (ts : List ℕ) (p : ℕ) (s : Listing) (a b : ℕ) → p ≤ length ts → a ≡ capped (nodes_in s) → b ≡ capped (accesses_in s)
-    → Found (record { at = p; nodes = a; accesses = b }) ≡ count_of (length ts) (found s (drop p ts))
+    → Some (record { at = p; nodes = a; accesses = b }) ≡ count_of (length ts) (found s (drop p ts))
 size_at ts p s a b l e f = rw (e, f, length-drop p ts, back)
   where
     back : length ts - (length ts - p) ≡ p
@@ -134,11 +133,11 @@ size_at ts p s a b l e f = rw (e, f, length-drop p ts, back)
 -- ---- an access
 
 module _ (ts : List ℕ) (at : ℕ) (l : at < length ts) where
-  pub access_short : length ts - at < 2 → Broken ≡ count_of (length ts) (item sequence_in 0 an_access (drop (at + 1) ts))
+  pub access_short : length ts - at < 2 → None ≡ count_of (length ts) (item sequence_in 0 an_access (drop (at + 1) ts))
   unfolding item
   access_short h = rw (drop_of_length-le ts {i = at + 1} (omega arith))
 
-  pub access_long : 2 ≤ length ts - at → Found (record { at = at + 2; nodes = 0; accesses = 1 }) ≡ count_of (length ts) (item sequence_in 0 an_access (drop (at + 1) ts))
+  pub access_long : 2 ≤ length ts - at → Some (record { at = at + 2; nodes = 0; accesses = 1 }) ≡ count_of (length ts) (item sequence_in 0 an_access (drop (at + 1) ts))
   unfolding item nodes_in accesses_in
   access_long h =
       size_at ts (at + 2) (access (get_or ts (at + 1) 0) end) 0 1 (omega arith) refl refl
@@ -155,57 +154,57 @@ access_any d [] = refl
 access_any d (b ∷ ts) = refl
 
 module _ (n d t : ℕ) (us : List ℕ) where
-  pub item_access : t ≡ 1 → (c : Counted) → c ≡ count_of n (item sequence_in 0 an_access us) → c ≡ count_of n (item sequence_in d (kind_of t) us)
+  pub item_access : t ≡ 1 → (c : Option Size) → c ≡ count_of n (item sequence_in 0 an_access us) → c ≡ count_of n (item sequence_in d (kind_of t) us)
   unfolding kind_of
   item_access e c h = h ∙ rw (e, access_any d us)
 
-  pub item_flat : (t ≡ 1 → ⊥) → d ≡ 0 → Broken ≡ count_of n (item sequence_in d (kind_of t) us)
+  pub item_flat : (t ≡ 1 → ⊥) → d ≡ 0 → None ≡ count_of n (item sequence_in d (kind_of t) us)
   unfolding kind_of item
   item_flat f z = rw (ne_eqb t 1 f, z) (go (eqb t 2) (eqb t 5))
     where
-      go : (a b : Bool) → Broken ≡ count_of n (item sequence_in 0 (cond a a_branch (cond b a_loop nothing)) us)
+      go : (a b : Bool) → None ≡ count_of n (item sequence_in 0 (cond a a_branch (cond b a_loop nothing)) us)
       go true b = refl
       go false true = refl
       go false false = refl
 
-  pub item_branch : t ≡ 2 → (d ≡ 0 → ⊥) → (c : Counted) → c ≡ count_of n (item sequence_in (suc (d - 1)) a_branch us) → c ≡ count_of n (item sequence_in d (kind_of t) us)
+  pub item_branch : t ≡ 2 → (d ≡ 0 → ⊥) → (c : Option Size) → c ≡ count_of n (item sequence_in (suc (d - 1)) a_branch us) → c ≡ count_of n (item sequence_in d (kind_of t) us)
   unfolding kind_of
   item_branch e z c h = let back : suc (d - 1) ≡ d = omega arith in rw (e, ← back) h
 
-  pub item_loop : t ≡ 5 → (d ≡ 0 → ⊥) → (c : Counted) → c ≡ count_of n (item sequence_in (suc (d - 1)) a_loop us) → c ≡ count_of n (item sequence_in d (kind_of t) us)
+  pub item_loop : t ≡ 5 → (d ≡ 0 → ⊥) → (c : Option Size) → c ≡ count_of n (item sequence_in (suc (d - 1)) a_loop us) → c ≡ count_of n (item sequence_in d (kind_of t) us)
   unfolding kind_of
   item_loop e z c h = let back : suc (d - 1) ≡ d = omega arith in rw (e, ← back) h
 
-  pub item_none : (t ≡ 1 → ⊥) → (t ≡ 2 → ⊥) → (t ≡ 5 → ⊥) → Broken ≡ count_of n (item sequence_in d (kind_of t) us)
+  pub item_none : (t ≡ 1 → ⊥) → (t ≡ 2 → ⊥) → (t ≡ 5 → ⊥) → None ≡ count_of n (item sequence_in d (kind_of t) us)
   unfolding kind_of item
   item_none a b c = rw (ne_eqb t 1 a, ne_eqb t 2 b, ne_eqb t 5 c)
 
 -- ---- a branch, whose arms begin at places
 
 module _ (ts : List ℕ) (at d : ℕ) where
-  abbrev branch_there : Counted
+  abbrev branch_there : Option Size
   branch_there = count_of (length ts) (item sequence_in (suc d) a_branch (drop at ts))
 
-  pub no_left : sequence_in d (drop at ts) ≡ broken → Broken ≡ branch_there
+  pub no_left : sequence_in d (drop at ts) ≡ broken → None ≡ branch_there
   unfolding item
   no_left e = rw e
 
   module _ (left : Size) (L : SeenSequence ts at d left) where
-    pub left_open : (get_or ts left.at 0 ≡ 3 → ⊥) → Broken ≡ branch_there
+    pub left_open : (get_or ts left.at 0 ≡ 3 → ⊥) → None ≡ branch_there
     unfolding item
     left_open f = rw (L.is, closed_off 3 ts left.at _ f)
 
-    pub no_right : get_or ts left.at 0 ≡ 3 → left.at < length ts → sequence_in d (drop (left.at + 1) ts) ≡ broken → Broken ≡ branch_there
+    pub no_right : get_or ts left.at 0 ≡ 3 → left.at < length ts → sequence_in d (drop (left.at + 1) ts) ≡ broken → None ≡ branch_there
     unfolding item
     no_right e l g = rw (L.is, closed_at 3 ts left.at _ l e, g)
 
     module _ (e : get_or ts left.at 0 ≡ 3) (l : left.at < length ts) (right : Size) (R : SeenSequence ts (left.at + 1) d right) where
-      pub right_open : (get_or ts right.at 0 ≡ 4 → ⊥) → Broken ≡ branch_there
+      pub right_open : (get_or ts right.at 0 ≡ 4 → ⊥) → None ≡ branch_there
       unfolding item
       right_open f = rw (L.is, closed_at 3 ts left.at _ l e, R.is, closed_off 4 ts right.at _ f)
 
       pub branch_there_lem : get_or ts right.at 0 ≡ 4 → right.at < length ts → (a b : ℕ) → a ≡ capped (capped (left.nodes + right.nodes) + 3) → b ≡ capped (left.accesses + right.accesses)
-          → Found (record { at = right.at + 1; nodes = a; accesses = b }) ≡ branch_there
+          → Some (record { at = right.at + 1; nodes = a; accesses = b }) ≡ branch_there
       unfolding item nodes_in accesses_in
       branch_there_lem f m a b p q =
           size_at ts (right.at + 1) (branch L.read R.read end) a b (omega arith)
@@ -215,7 +214,7 @@ module _ (ts : List ℕ) (at d : ℕ) where
 -- ---- a loop, whose count stands at a place
 
 module _ (ts : List ℕ) (at d : ℕ) where
-  abbrev loop_there : Counted
+  abbrev loop_there : Option Size
   loop_there = count_of (length ts) (item sequence_in (suc d) a_loop (drop at ts))
 
   pub loop_at_lem : at < length ts → item sequence_in (suc d) a_loop (drop at ts)
@@ -223,31 +222,31 @@ module _ (ts : List ℕ) (at d : ℕ) where
   unfolding item
   loop_at_lem l = rw (drop-cons ts at 0 l, add-one at)
 
-  pub few_rounds : get_or ts at 0 < 1 → Broken ≡ loop_there
+  pub few_rounds : get_or ts at 0 < 1 → None ≡ loop_there
   unfolding item
   few_rounds h = go (ltb at (length ts)) refl
     where
-      go : (b : Bool) → ltb at (length ts) ≡ b → Broken ≡ loop_there
+      go : (b : Bool) → ltb at (length ts) ≡ b → None ≡ loop_there
       go true e = rw (loop_at_lem (ltb-true at (length ts) e), lt-ltb (get_or ts at 0) 1 h)
       go false e = rw (drop_of_length-le ts {i = at} (omega (arith, ltb-false at (length ts) e)))
 
   module _ (l : at < length ts) where
-    pub many_rounds : 64 < get_or ts at 0 → Broken ≡ loop_there
+    pub many_rounds : 64 < get_or ts at 0 → None ≡ loop_there
     many_rounds h = rw (loop_at_lem l, or_right (ltb (get_or ts at 0) 1) _ (lt-ltb 64 (get_or ts at 0) h))
 
     module _ (some : 1 ≤ get_or ts at 0) (few : get_or ts at 0 ≤ 64) where
       inside : outside 1 64 (get_or ts at 0) ≡ false
       inside = neither (ltb (get_or ts at 0) 1) _ (le-ltb (get_or ts at 0) 1 some) (le-ltb 64 (get_or ts at 0) few)
 
-      pub no_body : sequence_in d (drop (at + 1) ts) ≡ broken → Broken ≡ loop_there
+      pub no_body : sequence_in d (drop (at + 1) ts) ≡ broken → None ≡ loop_there
       no_body e = rw (loop_at_lem l, inside, e)
 
       module _ (body : Size) (B : SeenSequence ts (at + 1) d body) where
-        pub body_open : (get_or ts body.at 0 ≡ 6 → ⊥) → Broken ≡ loop_there
+        pub body_open : (get_or ts body.at 0 ≡ 6 → ⊥) → None ≡ loop_there
         body_open f = rw (loop_at_lem l, inside, B.is, closed_off 6 ts body.at _ f)
 
         pub loop_there_lem : get_or ts body.at 0 ≡ 6 → body.at < length ts → (n a b : ℕ) → n ≡ get_or ts at 0 → a ≡ capped (n * body.nodes) → b ≡ capped (n * body.accesses)
-            → Found (record { at = body.at + 1; nodes = a; accesses = b }) ≡ loop_there
+            → Some (record { at = body.at + 1; nodes = a; accesses = b }) ≡ loop_there
         unfolding nodes_in accesses_in
         loop_there_lem f m n a b c p q =
             size_at ts (body.at + 1) (loop (get_or ts at 0) B.read end) a b (omega arith)
@@ -272,9 +271,9 @@ join_accesses (branch l r s) t = omega (arith, join_accesses s t)
 join_accesses (loop n l s) t = omega (arith, join_accesses s t)
 
 -- what was read so far, and the rest behind it
-abbrev pub on_from : Size → Counted → Counted
-on_from a Broken = Broken
-on_from a (Found z) = Found (behind a z)
+abbrev pub on_from : Size → Option Size → Option Size
+on_from a None = None
+on_from a (Some z) = Some (behind a z)
 
 -- so far and the rest give the whole, which begins at place `at`
 pub record Under (ts : List ℕ) (at d : ℕ) (z : Size) : Type 0 where
@@ -329,25 +328,25 @@ module _ (ts : List ℕ) (p d : ℕ) where
 
 module _ (ts : List ℕ) (at d : ℕ) (z : Size) (inv : Under ts at d z) where
   -- no item begins: all is read
-  pub reading_end : false ≡ begins_item (kind_of (get_or ts z.at 0)) → Found z ≡ count_of (length ts) (sequence_in d (drop at ts))
+  pub reading_end : false ≡ begins_item (kind_of (get_or ts z.at 0)) → Some z ≡ count_of (length ts) (sequence_in d (drop at ts))
   unfolding nodes_in accesses_in
   reading_end e = same ∙ (rw (stop_here ts z.at d e) at inv.whole)
     where
-      same : Found z ≡ on_from z (count_of (length ts) (found end (drop z.at ts)))
+      same : Some z ≡ on_from z (count_of (length ts) (found end (drop z.at ts)))
       same =
           let a : length ts - length (drop z.at ts) ≡ z.at = omega (arith, length-drop z.at ts, inv.to) in
           let b : capped (z.nodes + capped 0) ≡ z.nodes = omega (arith, inv.few_nodes) in
           let c : capped (z.accesses + capped 0) ≡ z.accesses = omega (arith, inv.few_accesses) in
           rw (a, b, c)
 
-  module _ (e : true ≡ begins_item (kind_of (get_or ts z.at 0))) (c : Counted)
+  module _ (e : true ≡ begins_item (kind_of (get_or ts z.at 0))) (c : Option Size)
       (f : c ≡ count_of (length ts) (item sequence_in d (kind_of (get_or ts z.at 0)) (drop (z.at + 1) ts))) where
     -- an item begins that is broken, and so is all
-    pub reading_broken : c ≡ Broken → Broken ≡ count_of (length ts) (sequence_in d (drop at ts))
+    pub reading_broken : c ≡ None → None ≡ count_of (length ts) (sequence_in d (drop at ts))
     reading_broken g = rw (item_here ts z.at d e, unseen (length ts) (item sequence_in d (kind_of (get_or ts z.at 0)) (drop (z.at + 1) ts)) c f g) at inv.whole
 
     -- or that is read
-    pub reading_next : (next : Size) → c ≡ Found next → (z.at < next.at) × Under ts at d (behind z next)
+    pub reading_next : (next : Size) → c ≡ Some next → (z.at < next.at) × Under ts at d (behind z next)
     reading_next next g =
         let S = seen ts z.at d inv.to _ (said_here ts z.at d e) c f next g in (
           further S,
@@ -381,32 +380,32 @@ closing ts p t u e f z = (sym e ∙ f, in_tokens ts p (λ q. z (sym f ∙ e ∙ 
 
 -- ---- nothing may be left over
 
-module _ (ts : List ℕ) (c : Counted) (e : c ≡ count_of (length ts) (sequence_in 8 ts)) where
-  pub listing_broken : c ≡ Broken → Broken ≡ count_of (length ts) (listing_of ts)
+module _ (ts : List ℕ) (c : Option Size) (e : c ≡ count_of (length ts) (sequence_in 8 ts)) where
+  pub listing_broken : c ≡ None → None ≡ count_of (length ts) (listing_of ts)
   unfolding listing_of
   listing_broken f = go (sequence_in 8 ts) e
     where
-      go : (r : Reading) → c ≡ count_of (length ts) r → Broken ≡ count_of (length ts) (to_the_end r)
+      go : (r : Reading) → c ≡ count_of (length ts) r → None ≡ count_of (length ts) (to_the_end r)
       go broken h = refl
       go (found s us) h = let z : ◌≡◌ {A = ℕ} 0 1 = cc in absurd (omega arith)
 
-  module _ (z : Size) (f : c ≡ Found z) where
-    pub listing_whole : z.at ≡ length ts → Found z ≡ count_of (length ts) (listing_of ts)
+  module _ (z : Size) (f : c ≡ Some z) where
+    pub listing_whole : z.at ≡ length ts → Some z ≡ count_of (length ts) (listing_of ts)
     unfolding listing_of
     listing_whole g = go (sequence_in 8 ts) e (in_said 8 ts)
       where
-        go : (r : Reading) → c ≡ count_of (length ts) r → Holds (Said 8 ts) r → Found z ≡ count_of (length ts) (to_the_end r)
+        go : (r : Reading) → c ≡ count_of (length ts) r → Holds (Said 8 ts) r → Some z ≡ count_of (length ts) (to_the_end r)
         go broken h p = sym f ∙ h
         go (found s []) h p = sym f ∙ h
         go (found s (u ∷ us)) h p =
             let same : z ≡ size_of s (length ts - length (u ∷ us)) = cc in
             absurd (omega (arith, ap (λ z. z.at) same, g, said_short 8 ts s (u ∷ us) p))
 
-    pub listing_more : (z.at ≡ length ts → ⊥) → Broken ≡ count_of (length ts) (listing_of ts)
+    pub listing_more : (z.at ≡ length ts → ⊥) → None ≡ count_of (length ts) (listing_of ts)
     unfolding listing_of
     listing_more g = go (sequence_in 8 ts) e
       where
-        go : (r : Reading) → c ≡ count_of (length ts) r → Broken ≡ count_of (length ts) (to_the_end r)
+        go : (r : Reading) → c ≡ count_of (length ts) r → None ≡ count_of (length ts) (to_the_end r)
         go broken h = refl
         go (found s []) h =
             let same : z ≡ size_of s (length ts - 0) = cc in

@@ -1,5 +1,5 @@
--- Reading finds a listing exactly where the tokens are those of one. What is found says its tokens (`Sound`); of any listing's tokens it finds that
--- listing (`reads-tokens`). How many items may be read at most makes no difference (`sequence_same`), so that a sequence is read item by item
+-- Reading finds a listing exactly where the tokens are those of one. What is found says its tokens (`Said`); of any listing's tokens it finds that
+-- listing (`reads`). How many items may be read at most makes no difference (`sequence_same`), so that a sequence is read item by item
 -- (`sequence_next`).
 use mathlib.Core.Path.{◌≡◌, refl, sym, ap, ◌∙◌}
 use mathlib.Core.Bool.{Bool, true, false, cond, not, ◌&&◌}

@@ -1,8 +1,6 @@
 -- How many nodes, accesses and edges a sequence adds to a graph, without expanding it.
-use Rattle.std.specs.Prelude.{Bool, true, false, ℕ, ◌+◌, ◌-◌, ◌*◌, min, length}
+use Rattle.std.specs.Prelude.{Bool, true, false, ℕ, ◌+◌, ◌-◌, ◌*◌, min, length, Option, Some, None}
 use Rattle.listing_form.specs.declared.Size.{Size}
-use Rattle.listing_form.specs.declared.Counted.{Counted}
-use Rattle.listing_form.specs.declared.Counted.TheVariants.{Found, Broken}
 use Rattle.listing_form.specs.Listing.{Listing, end, access, branch, loop}
 use Rattle.listing_form.specs.Reading.{Reading, found, broken, Kind, an_access, a_branch, a_loop, nothing}
 
@@ -49,6 +47,6 @@ abbrev pub size_of : Listing → ℕ → Size
 size_of s p = record { at = p; nodes = capped (nodes_in s); accesses = capped (accesses_in s) }
 
 -- what is read of n tokens
-abbrev pub count_of : ℕ → Reading → Counted
-count_of n broken = Broken
-count_of n (found s us) = Found (size_of s (n - length us))
+abbrev pub count_of : ℕ → Reading → Option Size
+count_of n broken = None
+count_of n (found s us) = Some (size_of s (n - length us))

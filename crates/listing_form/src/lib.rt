@@ -13,13 +13,6 @@ pub struct Size {
     pub accesses: u64,
 }
 
-// What was read is of the form; or not.
-#[derive(Clone, Copy)]
-pub enum Counted {
-    Found(Size),
-    Broken,
-}
-
 // The token at a place; past the end there is none, and 0 stands for it.
 fn token(tokens: &[u32], at: usize) -> u32
     ensures { result ≡ get_or tokens.now at 0 }
@@ -86,14 +79,14 @@ fn both(a: Size, b: Size) -> Size
 }
 
 // An access: its block has to follow.
-fn count_access(tokens: &[u32], at: usize) -> Counted
+fn count_access(tokens: &[u32], at: usize) -> Option<Size>
     requires { at < length tokens.now }
     ensures { result ≡ count_of (length tokens.now) (item sequence_in 0 an_access (drop (at + 1) tokens.now)) }
 {
     if tokens.len() - at < 2 {
-        return Counted::Broken;
+        return None;
     }
-    Counted::Found(Size {
+    Some(Size {
         at: at + 2,
         nodes: 0,
         accesses: 1,
@@ -102,7 +95,7 @@ fn count_access(tokens: &[u32], at: usize) -> Counted
 
 // The sequence from a place on, in which branches and loops may nest so deep: item after item, as long as they come.
 #[cycle(count_branch_count_item_count_loop_count_sequence)]
-fn count_sequence(tokens: &[u32], at: usize, depth: usize) -> Counted
+fn count_sequence(tokens: &[u32], at: usize, depth: usize) -> Option<Size>
     requires { at ≤ length tokens.now }
     ensures { result ≡ count_of (length tokens.now) (sequence_in depth (drop at tokens.now)) }
 {
@@ -111,19 +104,17 @@ fn count_sequence(tokens: &[u32], at: usize, depth: usize) -> Counted
         nodes: 0,
         accesses: 0,
     };
+    // From item to item: each ends where its own tokens say.
     while begins_item(tokens, so_far.at) {
-        let here = so_far.at;
-        let Counted::Found(next) = count_item(tokens, here, depth) else {
-            return Counted::Broken;
-        };
+        let next = count_item(tokens, so_far.at, depth)?;
         so_far = both(so_far, next);
     }
-    Counted::Found(so_far)
+    Some(so_far)
 }
 
 // The item at a place, in which branches and loops may nest so deep, itself counted.
 #[cycle(count_branch_count_item_count_loop_count_sequence)]
-fn count_item(tokens: &[u32], at: usize, depth: usize) -> Counted
+fn count_item(tokens: &[u32], at: usize, depth: usize) -> Option<Size>
     requires { at < length tokens.now }
     ensures { result ≡ count_of (length tokens.now) (item sequence_in depth (kind_of (get_or tokens.now at 0)) (drop (at + 1) tokens.now)) }
 {
@@ -132,7 +123,7 @@ fn count_item(tokens: &[u32], at: usize, depth: usize) -> Counted
         return count_access(tokens, at);
     }
     if depth == 0 {
-        return Counted::Broken;
+        return None;
     }
     if first == 2 {
         return count_branch(tokens, at + 1, depth - 1);
@@ -140,28 +131,24 @@ fn count_item(tokens: &[u32], at: usize, depth: usize) -> Counted
     if first == 5 {
         return count_loop(tokens, at + 1, depth - 1);
     }
-    Counted::Broken
+    None
 }
 
 // A branch, from behind its first token on: two arms, each closed by its token. It opens three nodes more than they do.
 #[cycle(count_branch_count_item_count_loop_count_sequence)]
-fn count_branch(tokens: &[u32], at: usize, depth: usize) -> Counted
+fn count_branch(tokens: &[u32], at: usize, depth: usize) -> Option<Size>
     requires { at ≤ length tokens.now }
     ensures { result ≡ count_of (length tokens.now) (item sequence_in (suc depth) a_branch (drop at tokens.now)) }
 {
-    let Counted::Found(left) = count_sequence(tokens, at, depth) else {
-        return Counted::Broken;
-    };
+    let left = count_sequence(tokens, at, depth)?;
     if token(tokens, left.at) != 3 {
-        return Counted::Broken;
+        return None;
     }
-    let Counted::Found(right) = count_sequence(tokens, left.at + 1, depth) else {
-        return Counted::Broken;
-    };
+    let right = count_sequence(tokens, left.at + 1, depth)?;
     if token(tokens, right.at) != 4 {
-        return Counted::Broken;
+        return None;
     }
-    Counted::Found(Size {
+    Some(Size {
         at: right.at + 1,
         nodes: sum(sum(left.nodes, right.nodes), 3),
         accesses: sum(left.accesses, right.accesses),
@@ -170,24 +157,22 @@ fn count_branch(tokens: &[u32], at: usize, depth: usize) -> Counted
 
 // A loop, from behind its first token on: a count from 1 to 64 and a sequence, closed by its token. It adds so many times what the sequence adds.
 #[cycle(count_branch_count_item_count_loop_count_sequence)]
-fn count_loop(tokens: &[u32], at: usize, depth: usize) -> Counted
+fn count_loop(tokens: &[u32], at: usize, depth: usize) -> Option<Size>
     requires { at ≤ length tokens.now }
     ensures { result ≡ count_of (length tokens.now) (item sequence_in (suc depth) a_loop (drop at tokens.now)) }
 {
     let count = token(tokens, at);
     if count < 1 {
-        return Counted::Broken;
+        return None;
     }
     if 64 < count {
-        return Counted::Broken;
+        return None;
     }
-    let Counted::Found(body) = count_sequence(tokens, at + 1, depth) else {
-        return Counted::Broken;
-    };
+    let body = count_sequence(tokens, at + 1, depth)?;
     if token(tokens, body.at) != 6 {
-        return Counted::Broken;
+        return None;
     }
-    Counted::Found(Size {
+    Some(Size {
         at: body.at + 1,
         nodes: product(count, body.nodes),
         accesses: product(count, body.accesses),
@@ -195,14 +180,12 @@ fn count_loop(tokens: &[u32], at: usize, depth: usize) -> Counted
 }
 
 // A listing: one sequence, 8 deep at most, and nothing behind it.
-pub fn count_listing(tokens: &[u32]) -> Counted
+pub fn count_listing(tokens: &[u32]) -> Option<Size>
     ensures { result ≡ count_of (length tokens.now) (listing_of tokens.now) }
 {
-    let Counted::Found(size) = count_sequence(tokens, 0, 8) else {
-        return Counted::Broken;
-    };
-    if size.at == tokens.len() {
-        return Counted::Found(size);
+    let size = count_sequence(tokens, 0, 8)?;
+    if size.at != tokens.len() {
+        return None;
     }
-    Counted::Broken
+    Some(size)
 }

@@ -1,4 +1,5 @@
 -- What the loops over a run, over the edges and over the nodes compute.
+use Rattle.std.specs.Prelude.{Err, None, Ok}
 use mathlib.Core.Path.{◌≡◌, refl, sym, ap, ◌∙◌}
 use mathlib.Core.Bool.{Bool, true, false, cond}
 use mathlib.Core.List.{List, [], ◌∷◌, ◌++◌}
@@ -12,8 +13,6 @@ use lib.Seq.{drop-cons, drop-length, set_split, take_all, take_at, drop_at, leng
 use Rattle.basics.specs.Sums.{sum_over}
 use Rattle.rules.specs.declared.Target.{Target}
 use Rattle.rules.specs.declared.Refusal.{Refusal}
-use Rattle.rules.specs.declared.Verdict.TheVariants.{Accepted, Refused}
-use Rattle.rules.specs.declared.Last.TheVariants.{Unknown as unknown}
 use Rattle.rules.specs.Contents.{find, with, target_of}
 use Rattle.rules.specs.Input.{Input, nodes, run_of, offset, edges_of}
 use Rattle.rules.specs.Refusals.{verdict}
@@ -30,11 +29,11 @@ use Rattle.live.specs.Starts.{starts_of}
 
 -- ---- one access
 
-pub with_found : (ts : List ℕ) → length ts ≤ 16 → (L b D : ℕ) (x : Target) → x ≡ aimed_at 1 ts unknown b → D ≡ with L (in_word x.place) → D ≡ with L (find ts b)
+pub with_found : (ts : List ℕ) → length ts ≤ 16 → (L b D : ℕ) (x : Target) → x ≡ aimed_at 1 ts None b → D ≡ with L (in_word x.place) → D ≡ with L (find ts b)
 unfolding target_of
 with_found ts few L b D x e q =
-    let so = aimed_so 1 ts few refl unknown b x e in
-    let a : Aimed 1 ts x = rw so (aimed 1 ts (omega arith) (omega arith) unknown b) in
+    let so = aimed_so 1 ts few refl None b x e in
+    let a : Aimed 1 ts x = rw so (aimed 1 ts (omega arith) (omega arith) None b) in
     with_listed L x.place (λ i p. omega (arith, few, a.placed i p)) D q ∙ rw so refl
 
 -- ---- through a run, from its last access to its first
@@ -62,16 +61,15 @@ pub after_end : (ls ns : List ℕ) (v e : ℕ) → e ≡ length ns / 2 * 2 → 0
 unfolding after_node
 after_end ls ns v e l = edges_end (after_node ls v) ns e _ refl (omega arith)
 
-pub after_next : (ls ns : List ℕ) (v e live d : ℕ) → 1 < e → e ≤ length ns → live ≡ after_node ls v (edges_of (drop e ns))
-    → d ≡ cond (eqb (get_or ns (e - 2) 0) v) (live_at ls v (get_or ns (e - 2 + 1) 0)) 0 → bit_or live d ≡ after_node ls v (edges_of (drop (e - 2) ns))
+pub after_next : (ls ns : List ℕ) (v e k live d : ℕ) → k + 2 ≡ e → e ≤ length ns → live ≡ after_node ls v (edges_of (drop e ns))
+    → d ≡ cond (eqb (get_or ns k 0) v) (live_at ls v (get_or ns (k + 1) 0)) 0 → bit_or live d ≡ after_node ls v (edges_of (drop k ns))
 unfolding after_node
-after_next ls ns v e live d h l q r =
-    let up : e - 2 + 2 ≡ e = omega arith in
-    rw (r, q) (go (eqb (get_or ns (e - 2) 0) v)) ∙ rw up at (edges_next (after_node ls v) ns (e - 2) _ refl (omega arith))
+after_next ls ns v e k live d up l q r =
+    rw (r, q) (go (eqb (get_or ns k 0) v)) ∙ rw up at (edges_next (after_node ls v) ns k _ refl (omega arith))
   where
-    go : (b : Bool) → bit_or (after_node ls v (edges_of (drop e ns))) (cond b (live_at ls v (get_or ns (e - 2 + 1) 0)) 0)
-        ≡ cond b (bit_or (live_at ls v (get_or ns (e - 2 + 1) 0)) (after_node ls v (edges_of (drop e ns)))) (after_node ls v (edges_of (drop e ns)))
-    go true = or_comm (after_node ls v (edges_of (drop e ns))) (live_at ls v (get_or ns (e - 2 + 1) 0))
+    go : (b : Bool) → bit_or (after_node ls v (edges_of (drop e ns))) (cond b (live_at ls v (get_or ns (k + 1) 0)) 0)
+        ≡ cond b (bit_or (live_at ls v (get_or ns (k + 1) 0)) (after_node ls v (edges_of (drop e ns)))) (after_node ls v (edges_of (drop e ns)))
+    go true = or_comm (after_node ls v (edges_of (drop e ns))) (live_at ls v (get_or ns (k + 1) 0))
     go false = or_zero_r (after_node ls v (edges_of (drop e ns)))
 
 -- behind node v, from the list of all nodes; past the last node there is none
@@ -146,10 +144,10 @@ offset_all ns = rw (take_all (length ns) ns (le_refl (length ns))) refl
 
 -- ---- the 64 numbers
 
-pub starts_refused : (i : Input) (r : Refusal) → Refused r ≡ verdict i → replicate {A = ℕ} 64 0 ≡ starts_of i
+pub starts_refused : (i : Input) (r : Refusal) → Err r ≡ verdict i → replicate {A = ℕ} 64 0 ≡ starts_of i
 unfolding starts_of
 starts_refused i r v = rw (← v)
 
-pub starts_found : (i : Input) (ls : List ℕ) → Accepted ≡ verdict i → nodes i ≤ 64 → ls ≡ lives_of i (nodes i) ++ drop (nodes i) (replicate 64 0) → ls ≡ starts_of i
+pub starts_found : (i : Input) (ls : List ℕ) → Ok tt ≡ verdict i → nodes i ≤ 64 → ls ≡ lives_of i (nodes i) ++ drop (nodes i) (replicate 64 0) → ls ≡ starts_of i
 unfolding starts_of
 starts_found i ls v few e = rw (← v) (rw (zeros_rest 64 (nodes i) few) at e)

@@ -1,5 +1,6 @@
 -- What the 64 numbers say of an accepted graph: at place v what is live at the start of node v, and by them and the edges what is live behind it. Nothing else of what
 -- comes in is looked at. No other proof of this crate uses this: it is for the callers.
+use Rattle.std.specs.Prelude.{Ok}
 use mathlib.Core.Path.{◌≡◌, refl, ap, ap₂, ◌∙◌}
 use mathlib.Core.Bool.{cond}
 use mathlib.Core.List.{List, [], ◌∷◌, ◌++◌}
@@ -11,7 +12,6 @@ use lib.Dec.{eqb}
 use lib.ListN.{length, get_or, drop, replicate}
 use lib.Seq.{drop-append-le}
 use Rattle.rules.specs.declared.Cache.{Cache}
-use Rattle.rules.specs.declared.Verdict.TheVariants.{Accepted}
 use Rattle.rules.specs.Input.{Input, input_in, nodes, run_of, Edge, edges_of}
 use Rattle.rules.specs.Refusals.{verdict}
 use Rattle.tight_rules.specs.Run.{living}
@@ -74,6 +74,6 @@ module _ (i : Input) where
         )
         (after_zeros (lives_of i (nodes i - suc v)) k v (edges_of i.edges))
 
-  pub starts_are : Accepted ≡ verdict i → starts_of i ≡ lives_of i (nodes i) ++ replicate (64 - nodes i) 0
+  pub starts_are : Ok tt ≡ verdict i → starts_of i ≡ lives_of i (nodes i) ++ replicate (64 - nodes i) 0
   unfolding starts_of
   starts_are h = rw (← h)

@@ -11,7 +11,7 @@ ghost use Rattle.tight_rules.specs.Live.{live_at, after_node, lives_of};
 ghost use Rattle.live.specs.Starts.{graph_of, starts_of};
 
 use refusals::judge;
-use rules::{Cache, Last, Start, Verdict};
+use rules::{Cache, Start};
 use tables::{aim, with_block};
 
 // `live` with the place of `block`, if it is tracked.
@@ -19,20 +19,19 @@ fn with_access(tracked: &[u32], live: u64, block: u32) -> u64
     requires { length tracked.now ≤ 16 }
     ensures { result ≡ with live (find tracked.now block) }
 {
-    let target = aim(tracked, 1, Last::Unknown, block);
+    let target = aim(tracked, 1, None, block);
     let place = target.place;
     with_block(live, place)
 }
 
 // The places that are accessed in `run`, and those of `live`: from its last access to its first.
+#[tactic(auto, using(crate::proofs::Lives::living_end))]
 fn living(tracked: &[u32], live: u64, run: &[u32]) -> u64
     requires { length tracked.now ≤ 16 }
     ensures { result ≡ living tracked.now live run.now }
 {
     let mut so_far = live;
-    let mut i: usize = run.len();
-    while 0 < i {
-        i -= 1;
+    for i in (0..run.len()).rev() {
         so_far = with_access(tracked, so_far, run[i]);
     }
     so_far
@@ -59,6 +58,7 @@ fn start_at(starts: &[u64], place: usize) -> u64
 }
 
 // What is live at the start of node `to`, if the edge comes from node `v`, and otherwise nothing; `starts` has the nodes behind node `v`.
+#[tactic(auto, using(crate::proofs::Lives::back, crate::proofs::Lives::onward))]
 fn along(starts: &[u64], v: usize, from: u32, to: u32) -> u64
     ensures { result ≡ cond (eqb from v) (live_at starts.now v to) 0 }
 {
@@ -76,15 +76,14 @@ fn after_node(starts: &[u64], edges: &[u32], v: usize) -> u64
     ensures { result ≡ after_node starts.now v (edges_of edges.now) }
 {
     let mut live: u64 = 0;
-    let mut e: usize = edges.len() / 2 * 2;
-    while 1 < e {
-        e -= 2;
-        live |= along(starts, v, edges[e], edges[e + 1]);
+    for e in (0..edges.len() / 2).rev() {
+        live |= along(starts, v, edges[2 * e], edges[2 * e + 1]);
     }
     live
 }
 
 // What is live behind the run of node `v`, where `starts` has for each node what is live at its start.
+#[tactic(auto, using(crate::proofs::Lives::after_part, crate::proofs::Lives::after_none))]
 pub fn live_after(starts: &[u64], edges: &[u32], v: usize) -> u64
     ensures { result ≡ after_node (drop (v + 1) starts.now) v (edges_of edges.now) }
 {
@@ -96,14 +95,13 @@ pub fn live_after(starts: &[u64], edges: &[u32], v: usize) -> u64
 }
 
 // For each node what is live at its start, from the last node to the first.
+#[tactic(auto, using(crate::proofs::Lives::held_all))]
 fn fill_starts(starts: &mut [u64], tracked: &[u32], runs: &[u32], accesses: &[u32], edges: &[u32])
     requires { (length tracked.now ≤ 16) × (length runs.now ≤ length starts.old) × (sum_over (λ n. n) runs.now ≡ length accesses.now) }
     ensures { starts.new ≡ lives_of (graph_of tracked.now runs.now accesses.now edges.now) (length runs.now) ++ drop (length runs.now) starts.old }
 {
     let mut to = accesses.len();
-    let mut v = runs.len();
-    while 0 < v {
-        v -= 1;
+    for v in (0..runs.len()).rev() {
         let from = to - runs[v] as usize;
         let behind = after_node(&starts[v + 1..runs.len()], edges, v);
         starts[v] = living(tracked, behind, &accesses[from..to]);
@@ -123,8 +121,8 @@ pub fn live_starts(tracked: &[u32], runs: &[u32], accesses: &[u32], edges: &[u32
     };
     let mut starts: [u64; 64] = [0; 64];
     match judge(cache, 1, tracked, runs, accesses, edges, 1, 5184) {
-        Verdict::Refused(_) => starts,
-        Verdict::Accepted => {
+        Err(_) => starts,
+        Ok(()) => {
             fill_starts(&mut starts, tracked, runs, accesses, edges);
             starts
         }

@@ -1,4 +1,5 @@
 -- The ends of the nodes: what the loops over the edges and over the nodes compute, and the answer that is made of it.
+use Rattle.std.specs.Prelude.{Err, Ok}
 use mathlib.Core.Path.{◌≡◌, refl, sym, ap, ◌∙◌}
 use mathlib.Core.List.{List, [], ◌∷◌, ◌++◌}
 use Prim.Native.Nat.{ℕ, zero, suc, ◌+◌, ◌-◌, ◌≤◌, ◌<◌, max}
@@ -8,37 +9,37 @@ use borrow.Author.Tests.{eq-eqb, ne_eqb}
 use lib.ListN.{length, get_or, set, take, drop}
 use lib.Seq.{take-suc-set, get_or-take}
 use Rattle.rules.specs.declared.Refusal.{Refusal}
-use Rattle.rules.specs.declared.Verdict.{Verdict}
-use Rattle.rules.specs.declared.Verdict.TheVariants.{Accepted, Refused}
-use Rattle.rules.specs.declared.Length.TheVariants.{Accesses, Refused as RefusedLength}
-use Rattle.rules.specs.Input.{Input, nodes, edges_of, predecessors}
+use Rattle.rules.specs.Answers.{Verdict}
+use Rattle.rules.specs.Input.{Input, Edge, nodes, edges_of, predecessors}
 use Rattle.rules.specs.Refusals.{verdict}
 use Rattle.rules.specs.Longest.{most_of, longest_to, longest, longest_answer, up_to}
 use Rattle.rules.proofs.Refusals.{Checked}
 use Rattle.rules.proofs.Graph.{offset_most}
 use Rattle.rules.proofs.Longest.{up_to_most_lem}
-use Rattle.graph_check.proofs.Checks.{edges_next, edges_end}
+use Rattle.basics.proofs.Lists.{list_next, list_end}
 use Rattle.longest.specs.Graph.{graph_of}
 
--- ---- through the edges: the most so far and the most of the edges that are left give the whole, w
+-- ---- through the edges: the most so far and the most of the edges from place i on give the whole, w
 
-module _ (ends ns : List ℕ) (j e most w : ℕ) (rest : max most (most_of ends (predecessors (edges_of (drop e ns)) j)) ≡ w) where
+module _ (ends : List ℕ) (es : List Edge) (j i most w : ℕ) (rest : max most (most_of ends (predecessors (drop i es) j)) ≡ w) where
   -- the next edge leads to node j
-  pub most_here : e + 1 < length ns → get_or ns (e + 1) 0 ≡ j → (m : ℕ) → m ≡ max most (get_or ends (get_or ns e 0) 0)
-      → max m (most_of ends (predecessors (edges_of (drop (e + 2) ns)) j)) ≡ w
+  pub most_here : (e : Edge) → (i < length es) × (e ≡ get_or es i e) → e.to ≡ j → (m : ℕ) → m ≡ max most (get_or ends e.from 0)
+      → max m (most_of ends (predecessors (drop (i + 1) es) j)) ≡ w
   unfolding most_of predecessors
-  most_here l h m q =
-      let next = rw (eq-eqb (get_or ns (e + 1) 0) j h) at (edges_next (λ es. max most (most_of ends (predecessors es j))) ns e w rest l) in
-      omega (arith, next, q)
+  most_here e at h m q =
+      let next = list_next (λ fs. max most (most_of ends (predecessors fs j))) es i w rest e at.0 in
+      omega (arith, q, rw (← at.1, eq-eqb e.to j h) at next)
 
   -- it leads to another node
-  pub most_other : e + 1 < length ns → (get_or ns (e + 1) 0 ≡ j → ⊥) → max most (most_of ends (predecessors (edges_of (drop (e + 2) ns)) j)) ≡ w
+  pub most_other : (e : Edge) → (i < length es) × (e ≡ get_or es i e) → (e.to ≡ j → ⊥) → max most (most_of ends (predecessors (drop (i + 1) es) j)) ≡ w
   unfolding predecessors
-  most_other l h = rw (ne_eqb (get_or ns (e + 1) 0) j h) at (edges_next (λ es. max most (most_of ends (predecessors es j))) ns e w rest l)
+  most_other e at h =
+      let next = list_next (λ fs. max most (most_of ends (predecessors fs j))) es i w rest e at.0 in
+      rw (← at.1, ne_eqb e.to j h) at next
 
-  pub most_end : length ns ≤ e + 1 → most ≡ w
+  pub most_end : i ≡ length es → most ≡ w
   unfolding most_of predecessors
-  most_end l = sym (max-zero most) ∙ edges_end (λ es. max most (most_of ends (predecessors es j))) ns e w rest l
+  most_end l = sym (max-zero most) ∙ list_end (λ fs. max most (most_of ends (predecessors fs j))) es i w rest (omega arith)
 
 -- ---- through the nodes
 
@@ -69,13 +70,13 @@ module _ (i : Input) where
   pub ends_fit : Checked i → (j : ℕ) → j < nodes i → up_to (graph_of i.lengths i.edges) j ≤ 4096
   ends_fit ok j l = rw (same_longest j) (omega (arith, up_to_most_lem i ok j l, offset_most i.lengths (suc j), ok.all_accesses, ok.few_accesses))
 
-  pub answer_refused : (v : Verdict) (r : Refusal) → v ≡ verdict i → v ≡ Refused r → RefusedLength r ≡ longest_answer i
+  pub answer_refused : (v : Verdict) (r : Refusal) → v ≡ verdict i → v ≡ Err r → Err r ≡ longest_answer i
   unfolding longest_answer
   answer_refused v r e f = rw (← e, f)
 
   -- the last node's end is the answer
-  pub answer_longest : (ends : List ℕ) → Accepted ≡ verdict i → 0 < nodes i → take (nodes i) ends ≡ longest_to (graph_of i.lengths i.edges) (nodes i)
-      → Accesses (get_or ends (nodes i - 1) 0) ≡ longest_answer i
+  pub answer_longest : (ends : List ℕ) → Ok tt ≡ verdict i → 0 < nodes i → take (nodes i) ends ≡ longest_to (graph_of i.lengths i.edges) (nodes i)
+      → Ok (get_or ends (nodes i - 1) 0) ≡ longest_answer i
   unfolding longest_answer longest
   answer_longest ends v some h =
       rw (← v, ← get_or-take (nodes i) ends (nodes i - 1) 0 (omega arith), h, same_longest (nodes i))

@@ -8,7 +8,7 @@ ghost use Rattle.longest.specs.Graph.{graph_of};
 
 use basics::larger;
 use refusals::judge;
-use rules::{Cache, Length, Verdict};
+use rules::{Cache, Refusal};
 
 // What `node` has in `ends`, or 0 past the end.
 fn end_of(ends: &[u64], node: usize) -> u64
@@ -25,12 +25,10 @@ fn most_before(ends: &[u64], edges: &[u32], node: usize) -> u64
     ensures { result ≡ most_of ends.now (predecessors (edges_of edges.now) node) }
 {
     let mut most: u64 = 0;
-    let mut e: usize = 0;
-    while e + 1 < edges.len() {
-        if edges[e + 1] as usize == node {
-            most = larger(most, end_of(ends, edges[e] as usize));
+    for edge in edges.chunks_exact(2) {
+        if edge[1] as usize == node {
+            most = larger(most, end_of(ends, edge[0] as usize));
         }
-        e += 2;
     }
     most
 }
@@ -40,12 +38,9 @@ fn find_ends(ends: &mut [u64], runs: &[u32], edges: &[u32])
     requires { (length runs.now ≤ length ends.old) × ((j : ℕ) → j < length runs.now → up_to (graph_of runs.now edges.now) j ≤ 4096) }
     ensures { take (length runs.now) ends.new ≡ longest_to (graph_of runs.now edges.now) (length runs.now) }
 {
-    let mut j: usize = 0;
-    while j < runs.len() {
+    for (j, run) in runs.iter().enumerate() {
         let most = most_before(&ends[..j], edges, j);
-        let run = runs[j] as u64;
-        ends[j] = most + run;
-        j += 1;
+        ends[j] = most + *run as u64;
     }
 }
 
@@ -57,10 +52,10 @@ pub fn longest_path(
     runs: &[u32],
     accesses: &[u32],
     edges: &[u32],
-) -> Length
+) -> Result<u64, Refusal>
     ensures { result ≡ longest_answer (input_of cache limit tracked.now runs.now accesses.now edges.now) }
 {
-    match judge(
+    judge(
         cache,
         limit,
         tracked,
@@ -69,13 +64,8 @@ pub fn longest_path(
         edges,
         limit as usize,
         5184,
-    ) {
-        Verdict::Refused(reason) => Length::Refused(reason),
-        Verdict::Accepted => {
-            let mut ends: [u64; 64] = [0; 64];
-            find_ends(&mut ends, runs, edges);
-            let last = ends[runs.len() - 1];
-            Length::Accesses(last)
-        }
-    }
+    )?;
+    let mut ends: [u64; 64] = [0; 64];
+    find_ends(&mut ends, runs, edges);
+    Ok(ends[runs.len() - 1])
 }

@@ -8,12 +8,13 @@ ghost use Rattle.night_rows.specs.Reasons.{build_reasons};
 ghost use Rattle.night_rows.specs.Rows.{number_row, row_put};
 
 use curve_numbers::end_of;
-use rules::{Refusal, Verdict};
+use rules::Refusal;
 
 // A row: 0 or the number of a refusal, how many states the finished table has, the set-aside count, the accesses of the longest path, and the smallest budget for the
 // allowance.
 #[derive(Clone, Copy)]
 pub struct Row {
+    // A number and no `Result`: a row is five words for C, in this order.
     pub refusal: u64,
     pub states: u64,
     pub aside: u64,
@@ -40,6 +41,7 @@ pub fn count_graphs(numbers: &[u32]) -> usize
 {
     let mut at: usize = 0;
     let mut count: usize = 0;
+    // From graph to graph: each ends where its own count says.
     while at < numbers.len() {
         if count == 256 {
             return 257;
@@ -54,20 +56,20 @@ pub fn count_graphs(numbers: &[u32]) -> usize
 }
 
 // The first reason to refuse a list, with rooms of so many words for the rows and for the work.
-pub fn judge_list(numbers: &[u32], rows: usize, work: usize) -> Verdict
+pub fn judge_list(numbers: &[u32], rows: usize, work: usize) -> Result<(), Refusal>
     ensures { result ≡ first (build_reasons numbers.now rows work) }
 {
     let count = count_graphs(numbers);
     if 256 < count {
-        return Verdict::Refused(Refusal::Nightly);
+        return Err(Refusal::Nightly);
     }
     if rows / 5 < count {
-        return Verdict::Refused(Refusal::Nightly);
+        return Err(Refusal::Nightly);
     }
     if work / 5 < 5248 {
-        return Verdict::Refused(Refusal::Room);
+        return Err(Refusal::Room);
     }
-    Verdict::Accepted
+    Ok(())
 }
 
 // The row of a graph that is refused with this number.

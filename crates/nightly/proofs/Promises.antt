@@ -1,6 +1,7 @@
 -- What the nightly build promises: each row is that of the graph by itself; every graph is counted once; and the sum of the set-aside counts fits 64 bits, since of
 -- 256 graphs none sets more than WHOLE aside. The first two follow from the definitions alone, the rules of the graph call leaving no other refusals for one set of the
 -- first revision with room enough.
+use Rattle.std.specs.Prelude.{Err, Ok}
 use mathlib.Core.Path.{◌≡◌, refl, sym, ap, ap₂, ◌∙◌}
 use mathlib.Core.Bool.{Bool, true, false, cond, ◌||◌, not}
 use mathlib.Core.List.{List, [], ◌∷◌, map}
@@ -13,9 +14,7 @@ use lib.ListN.{length, get_or, drop_of_length-le}
 use lib.Seq.{take_all}
 use Rattle.basics.specs.Sums.{sum_over}
 use Rattle.rules.specs.declared.Refusal.TheVariants.{Text, Ways, Limit, Tracked, Accesses, Graph}
-use Rattle.rules.specs.declared.Verdict.{Verdict}
-use Rattle.rules.specs.declared.Verdict.TheVariants.{Accepted, Refused}
-use Rattle.rules.specs.declared.Outcome.TheVariants.{Refused as RefusedOutcome}
+use Rattle.rules.specs.Answers.{Verdict}
 use Rattle.rules.specs.Contents.{once}
 use Rattle.rules.specs.Input.{Input, nodes}
 use Rattle.rules.specs.Refusals.{outside, edges_kept, reasons, verdict, answered, outcome}
@@ -61,7 +60,7 @@ in_counts r = one_of 0 r + one_of 9 r + one_of 1 r + one_of 2 r + one_of 3 r + o
 
 -- the verdict on a graph of one set and the first revision with room enough
 abbrev plain_verdict : Bool → Bool → Bool → Bool → Bool → Verdict
-plain_verdict w k t a g = cond w (Refused Ways) (cond k (Refused Limit) (cond t (Refused Tracked) (cond a (Refused Accesses) (cond g (Refused Graph) Accepted))))
+plain_verdict w k t a g = cond w (Err Ways) (cond k (Err Limit) (cond t (Err Tracked) (cond a (Err Accesses) (cond g (Err Graph) (Ok tt)))))
 
 verdict_is : (ns : List ℕ) → let i = input_from plain ns in
     verdict i
@@ -92,7 +91,7 @@ counts_row : (u : ℕ) (ns : List ℕ) → in_counts (row_of u ns) ≡ 1
 unfolding row_of numbers_outcome outcome
 counts_row u ns = go (leb (length ns) 16384) (complete ns)
   where
-    go : (b c : Bool) → in_counts (cond b (row_for u (input_from plain ns) (cond c (answered (verdict (input_from plain ns)) (input_from plain ns)) (RefusedOutcome Text))) (refused_row Text)) ≡ 1
+    go : (b c : Bool) → in_counts (cond b (row_for u (input_from plain ns) (cond c (answered (verdict (input_from plain ns)) (input_from plain ns)) (Err Text))) (refused_row Text)) ≡ 1
     go true true = counts_plain u ns
     go true false = refl
     go false c = refl

@@ -1,8 +1,7 @@
 -- A graph's row: by the definitions of the graph call, the longest path and the smallest budget, of the graph by itself.
-use Rattle.std.specs.Prelude.{cond, List, ℕ, leb, length}
-use Rattle.rules.specs.declared.Outcome.{Outcome}
-use Rattle.rules.specs.declared.Outcome.TheVariants.{Finished, Refused as RefusedOutcome}
+use Rattle.std.specs.Prelude.{cond, List, ℕ, leb, length, Err, Ok}
 use Rattle.rules.specs.declared.Refusal.TheVariants.{Text}
+use Rattle.rules.specs.Answers.{Outcome}
 use Rattle.rules.specs.Input.{Input}
 use Rattle.rules.specs.Graph.{finished}
 use Rattle.rules.specs.Longest.{longest}
@@ -14,8 +13,8 @@ use Rattle.night_rows.specs.Rows.{refused_row}
 
 -- the row of a graph i whose call had this outcome, for the allowance u: 0, the states, the set-aside count, the longest path, the smallest budget; or a refusal's
 abbrev pub row_for : ℕ → Input → Outcome → Row
-row_for u i (Finished n a) = record { refusal = 0; states = n; aside = a.0; longest = longest i; budget = smallest_budget u (finished i).table }
-row_for u i (RefusedOutcome r) = refused_row r
+row_for u i (Ok f) = record { refusal = 0; states = f.states; aside = f.aside.0; longest = longest i; budget = smallest_budget u (finished i).table }
+row_for u i (Err r) = refused_row r
 
 -- the row of a graph's numbers, on document 01's cache: 9 for more than 16,384 of them, a missing one or one left over; then as the graph call answers
 unfoldable pub row_of : ℕ → List ℕ → Row

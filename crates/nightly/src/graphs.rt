@@ -53,6 +53,7 @@ pub(crate) fn work_graphs(
     };
     let mut at: usize = 0;
     let mut count: usize = 0;
+    // From graph to graph: each ends where its own count says.
     while at < numbers.len() {
         let end = end_of(numbers, at, 1);
         let row = work_graph(&numbers[at + 1..end], allowance, rows, count, res, work);

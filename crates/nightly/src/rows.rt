@@ -1,6 +1,5 @@
 // A graph's row.
-ghost use Rattle.std.specs.Prelude.{◌≡◌, true, ◌≤◌, length, take};
-ghost use Rattle.rules.specs.declared.Verdict.TheVariants.{Accepted};
+ghost use Rattle.std.specs.Prelude.{◌≡◌, true, ◌≤◌, length, take, Ok};
 ghost use Rattle.rules.specs.Longest.{longest};
 ghost use Rattle.rules.specs.Questions.{is_table, smallest_budget};
 ghost use Rattle.rules.specs.Refusals.{verdict};
@@ -12,7 +11,7 @@ use curve_numbers::Choice;
 use night_rows::{Row, refused_row};
 use parts::{analyse_numbers, longest_of_numbers};
 use questions::smallest_budget_in;
-use rules::{Count, Length, Outcome, Start};
+use rules::{Finished, Start};
 
 // Document 01's cache: one set, the first revision, found empty.
 fn plain_choice() -> Choice
@@ -27,12 +26,12 @@ fn plain_choice() -> Choice
 
 // The accesses of the longest path, where the graph call is accepted.
 fn longest_of(numbers: &[u32]) -> u64
-    requires { (complete numbers.now ≡ true) × (verdict (input_from plain numbers.now) ≡ Accepted) }
+    requires { (complete numbers.now ≡ true) × (verdict (input_from plain numbers.now) ≡ Ok tt) }
     ensures { result ≡ longest (input_from plain numbers.now) }
 {
     match longest_of_numbers(plain_choice(), numbers) {
-        Length::Accesses(n) => n,
-        Length::Refused(why) => 0,
+        Ok(n) => n,
+        Err(why) => 0,
     }
 }
 
@@ -42,8 +41,8 @@ fn budget_of(res: &[u64], states: usize, allowance: u64) -> u64
     ensures { result ≡ smallest_budget allowance (take states (table_of res.now)) }
 {
     match smallest_budget_in(res, states, allowance) {
-        Count::Misses(n) => n,
-        Count::Refused(why) => 0,
+        Ok(n) => n,
+        Err(why) => 0,
     }
 }
 
@@ -56,8 +55,8 @@ pub(crate) fn row_of(numbers: &[u32], allowance: u64, res: &mut [u64], work: &mu
         return refused_row(9);
     }
     match analyse_numbers(plain_choice(), numbers, res, work) {
-        Outcome::Refused(why) => refused_row(why.number()),
-        Outcome::Finished(states, aside) => {
+        Err(why) => refused_row(why.number()),
+        Ok(Finished { states, aside }) => {
             let longest = longest_of(numbers);
             let budget = budget_of(res, states, allowance);
             Row {

@@ -22,6 +22,7 @@ pub fn precedes(a: u64, b: u64, c: u64, d: u64) -> bool
 }
 
 // Whether `s` stands before `t` in a table: by mask, then by misses, then by the filled numbers, set 0 first.
+#[tactic(auto, unfolding(rules::specs::Table::order))]
 pub fn stands_before(s: State, t: State) -> bool
     ensures { result ≡ is_before (order s t) }
 {
@@ -47,6 +48,7 @@ pub fn open_flag(exact: bool) -> u64
 }
 
 // Whether `s` stands before `t` in the best case's table: exact states by mask, misses and hits, and open ones after them.
+#[tactic(auto, unfolding(rules::specs::Best::order))]
 pub fn best_before(s: BestState, t: BestState) -> bool
     ensures { result ≡ is_before (best_order s t) }
 {

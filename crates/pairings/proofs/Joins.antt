@@ -1,31 +1,24 @@
 -- Joins, counted: the edges to a node, and the joins of the nodes so far, which are no more than the edges.
-use mathlib.Core.Path.{◌≡◌, refl}
+use mathlib.Core.Path.{◌≡◌, refl, ap}
 use mathlib.Core.Bool.{Bool, true, false, cond}
 use mathlib.Core.List.{List, [], ◌∷◌}
-use Prim.Native.Nat.{ℕ, zero, suc, ◌+◌, ◌≤◌, ◌<◌}
+use Prim.Native.Nat.{ℕ, zero, suc, ◌+◌, ◌≤◌}
 use native.Mathlib.Omega.{arith}
 use lib.Dec.{eqb}
-use lib.ListN.{length, get_or, drop}
-use borrow.Author.Tests.{eq-eqb, ne_eqb, eqb-true}
+use lib.ListN.{length}
+use borrow.Author.Tests.{eqb-true}
+use Rattle.std.specs.List.{filter}
 use Rattle.rules.specs.Input.{Edge, edges_of, predecessors, joins_at, joins_to}
-use Rattle.graph_check.proofs.Checks.{edges_next, edges_end}
 
--- ---- the edges to a node: those so far and those that are left are all, w
+-- ---- the edges to a node
 
-module _ (ns : List ℕ) (j e many w : ℕ) (rest : many + length (predecessors (edges_of (drop e ns)) j) ≡ w) where
-  pub many_here : e + 1 < length ns → get_or ns (e + 1) 0 ≡ j → (m : ℕ) → m ≡ many + 1 → m + length (predecessors (edges_of (drop (e + 2) ns)) j) ≡ w
-  unfolding predecessors
-  many_here l h m q =
-      let next = rw (eq-eqb (get_or ns (e + 1) 0) j h) at (edges_next (λ es. many + length (predecessors es j)) ns e w rest l) in
-      omega (arith, next, q)
-
-  pub many_other : e + 1 < length ns → (get_or ns (e + 1) 0 ≡ j → ⊥) → many + length (predecessors (edges_of (drop (e + 2) ns)) j) ≡ w
-  unfolding predecessors
-  many_other l h = rw (ne_eqb (get_or ns (e + 1) 0) j h) at (edges_next (λ es. many + length (predecessors es j)) ns e w rest l)
-
-  pub many_end : length ns ≤ e + 1 → many ≡ w
-  unfolding predecessors
-  many_end l = omega (arith, edges_end (λ es. many + length (predecessors es j)) ns e w rest l)
+pub edges_to : (j : ℕ) (es : List Edge) → length (filter (λ e. eqb e.to j) es) ≡ length (predecessors es j)
+unfolding predecessors
+edges_to j [] = refl
+edges_to j (e ∷ es) = elim (eqb e.to j) as (λ b. length (cond b (e ∷ filter (λ f. eqb f.to j) es) (filter (λ f. eqb f.to j) es)) ≡ length (cond b (e.from ∷ predecessors es j) (predecessors es j))) [
+  | true ↦ ap suc (edges_to j es)
+  | false ↦ edges_to j es
+]
 
 -- ---- no more joins than edges
 

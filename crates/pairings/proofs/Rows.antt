@@ -2,22 +2,28 @@
 -- and for the entries, whose rows are used up one entry after the other.
 use mathlib.Core.Path.{◌≡◌, refl, sym, ap, ◌∙◌}
 use mathlib.Core.Bool.{Bool, true, false, cond, ◌||◌, ◌&&◌, and-false}
-use mathlib.Core.List.{List, [], ◌∷◌}
+use mathlib.Core.List.{List, [], ◌∷◌, ◌++◌}
 use Prim.Native.Nat.{ℕ, suc, ◌+◌, ◌-◌, ◌*◌, ◌/◌, ◌≤◌, ◌<◌}
 use native.Mathlib.Numerals.{add-one}
 use native.Mathlib.Omega.{arith}
-use lib.Dec.{eqb, leb, ltb}
+use lib.Dec.{eqb, leb}
 use lib.ListN.{length, get_or, drop, length-drop}
 use lib.Seq.{drop-cons}
-use borrow.Author.Tests.{eq-eqb, ne_eqb, eqb-true, leb-true, le-ltb, lt-ltb}
+use borrow.Author.Tests.{eq-eqb, ne_eqb, eqb-true}
+use Rattle.std.specs.declared.slice.ChunksExact.{ChunksExact}
+use Rattle.std.specs.Slice.Iter.{chunks_exact_rest, chunks_exact_size, chunks_exact_steps}
+use Rattle.std.specs.List.{list_all}
+use Rattle.std.proofs.lemmas.Iterator.{YieldsList}
+use Rattle.std.proofs.lemmas.Iterator.Splits.{YieldsList-from_shown_while}
+use Rattle.std.proofs.lemmas.List.Recursion.{same_from_clauses}
 use Rattle.basics.proofs.Bools.{same_test}
 use Rattle.basics.proofs.Lists.{list_next, list_end}
 use Rattle.rules.specs.declared.State.{State}
-use Rattle.rules.specs.AnyTable.{Match, used_at, is_pair, places_exist, uses_from, fits}
+use Rattle.rules.specs.AnyTable.{Match, used_at, is_pair, places_exist, uses_from}
 use Rattle.rules.specs.Table.{listing, units_of, state_at}
-use Rattle.rules.specs.Entries.{no_rows, rows_of, rows_told, few_rows, in_form}
+use Rattle.rules.specs.Entries.{no_rows, rows_of, rows_told, few_rows}
 use Rattle.words.specs.Tables.{table_of}
-use Rattle.words.proofs.Tables.{length_table_of, state_next, state_end}
+use Rattle.words.proofs.Tables.{state_next, state_end}
 use Rattle.pairings.specs.Rows.{row_at}
 
 -- ---- one row
@@ -29,50 +35,63 @@ rows_at rs r h =
     let three : r + 3 ≡ suc (suc (suc r)) = omega arith in
     rw (one, two, three, drop-cons rs r 0 (omega arith), drop-cons rs (suc r) 0 (omega arith), drop-cons rs (suc (suc r)) 0 (omega arith))
 
+no_rows_in : (ms : List ℕ) → length ms ≤ 2 → rows_of ms ≡ []
+no_rows_in [] l = refl
+no_rows_in (a ∷ []) l = refl
+no_rows_in (a ∷ b ∷ []) l = refl
+no_rows_in (a ∷ b ∷ c ∷ ms) l = absurd (omega arith)
+
 module _ {A : Type 0} (f : List Match → A) (rs : List ℕ) (r : ℕ) (w : A) (rest : f (rows_of (drop r rs)) ≡ w) where
   pub rows_next : r + 2 < length rs → f (row_at rs r ∷ rows_of (drop (r + 3) rs)) ≡ w
   rows_next h = rw (rows_at rs r h) at rest
 
   pub rows_end_lem : length rs ≤ r + 2 → f [] ≡ w
-  rows_end_lem h = sym (ap f (none (drop r rs) (omega (arith, length-drop r rs)))) ∙ rest
-    where
-      none : (ms : List ℕ) → length ms ≤ 2 → rows_of ms ≡ []
-      none [] l = refl
-      none (a ∷ []) l = refl
-      none (a ∷ b ∷ []) l = refl
-      none (a ∷ b ∷ c ∷ ms) l = absurd (omega arith)
+  rows_end_lem h = sym (ap f (no_rows_in (drop r rs) (omega (arith, length-drop r rs)))) ∙ rest
+
+row_first : (ns ms : List ℕ) → length ns ≡ 3 → rows_of (ns ++ ms) ≡ row_at ns 0 ∷ rows_of ms
+row_first [] ms h = absurd (omega arith)
+row_first (a ∷ []) ms h = absurd (omega arith)
+row_first (a ∷ b ∷ []) ms h = absurd (omega arith)
+row_first (a ∷ b ∷ u ∷ []) ms h = refl
+row_first (a ∷ b ∷ u ∷ c ∷ ns) ms h = absurd (omega arith)
+
+-- the flat list in chunks of three gives the rows
+pub rows_in_chunks : (s : ChunksExact ℕ) (ns : List ℕ) → chunks_exact_rest s ≡ ns → chunks_exact_size s ≡ 3
+    → YieldsList (chunks_exact_steps {A = ℕ}) (λ x. row_at x.now 0) s (rows_of ns)
+rows_in_chunks s ns e three =
+    rw (← e)
+    (YieldsList-from_shown_while (chunks_exact_steps {A = ℕ}) (λ x. row_at x.now 0) (λ t. rows_of (chunks_exact_rest t)) (λ t. chunks_exact_size t ≡ 3)
+    (λ t u h k. ap length (no_rows_in (chunks_exact_rest t) (omega (arith, k.1.0))))
+    (λ t x u h k. (k.0 ∙ h, ap rows_of k.1.0 ∙ row_first x.now (chunks_exact_rest u) (k.1.1 ∙ h)))
+    s three)
 
 -- ---- each has units, and its places exist
 
-module _ (m k : ℕ) (rs : List ℕ) (r : ℕ) (w : Bool) (rest : places_exist m k (rows_of (drop r rs)) ≡ w) where
-  pub exist_next : r + 2 < length rs → (b : Bool) → b ≡ is_pair m k (row_at rs r) → (b && places_exist m k (rows_of (drop (r + 3) rs))) ≡ w
-  unfolding places_exist
-  exist_next h b e = rw e (rows_next (places_exist m k) rs r w rest h)
-
-  pub exist_end : length rs ≤ r + 2 → true ≡ w
-  unfolding places_exist
-  exist_end h = rows_end_lem (places_exist m k) rs r w rest h
+pub all_pairs : (m k : ℕ) (P : List Match) → list_all (is_pair m k) P ≡ places_exist m k P
+unfolding places_exist
+all_pairs m k P = same_from_clauses (list_all (is_pair m k)) (places_exist m k) (λ p r. is_pair m k p && r) refl (λ _ _. refl) (λ _ _. refl) P
 
 -- ---- the units used at a place: what is left of u of them, and what the rows to come use
 
-module _ (side : Match → ℕ) (a u : ℕ) (rs : List ℕ) (r left : ℕ) (rest : used_at side a (rows_of rs) + left ≡ used_at side a (rows_of (drop r rs)) + u) where
+module _ (side : Match → ℕ) (a u : ℕ) (P : List Match) (i left : ℕ) (rest : used_at side a P + left ≡ used_at side a (drop i P) + u) where
   abbrev all : ℕ
-  all = used_at side a (rows_of rs)
+  all = used_at side a P
 
-  used_next : r + 2 < length rs → (used : ℕ) → used ≡ cond (eqb (side (row_at rs r)) a) (row_at rs r).units 0
-      → all + left ≡ used + used_at side a (rows_of (drop (r + 3) rs)) + u
-  used_next h used e = rw e (sym (rows_next (λ P. used_at side a P + u) rs r (all + left) (sym rest) h))
+  -- p is the row at place i
+  used_next : (p : Match) → (i < length P) × (p ≡ get_or P i p) → (used : ℕ) → used ≡ cond (eqb (side p) a) p.units 0
+      → all + left ≡ used + used_at side a (drop (i + 1) P) + u
+  used_next p h used e = rw (e, h.1) (sym (list_next (λ Q. used_at side a Q + u) P i (all + left) (sym rest) p h.0))
 
-  pub spent_next : r + 2 < length rs → (used : ℕ) → used ≡ cond (eqb (side (row_at rs r)) a) (row_at rs r).units 0 → used ≤ left
-      → all + (left - used) ≡ used_at side a (rows_of (drop (r + 3) rs)) + u
-  spent_next h used e few = omega (arith, used_next h used e)
+  pub spent_next : (p : Match) → (i < length P) × (p ≡ get_or P i p) → (used : ℕ) → used ≡ cond (eqb (side p) a) p.units 0 → used ≤ left
+      → all + (left - used) ≡ used_at side a (drop (i + 1) P) + u
+  spent_next p h used e few = omega (arith, used_next p h used e)
 
-  pub spent_more : r + 2 < length rs → (used : ℕ) → used ≡ cond (eqb (side (row_at rs r)) a) (row_at rs r).units 0 → left < used → false ≡ eqb all u
-  spent_more h used e many = sym (ne_eqb all u (λ q. absurd (omega (arith, used_next h used e, q))))
+  pub spent_more : (p : Match) → (i < length P) × (p ≡ get_or P i p) → (used : ℕ) → used ≡ cond (eqb (side p) a) p.units 0 → left < used → false ≡ eqb all u
+  spent_more p h used e many = sym (ne_eqb all u (λ q. absurd (omega (arith, used_next p h used e, q))))
 
-  pub spent_end : length rs ≤ r + 2 → eqb left 0 ≡ eqb all u
+  pub spent_end : i ≡ length P → eqb left 0 ≡ eqb all u
   spent_end h =
-      let none = rows_end_lem (λ P. used_at side a P + u) rs r (all + left) (sym rest) h in
+      let none = list_end (λ Q. used_at side a Q + u) P i (all + left) (sym rest) (omega arith) in
       same_test (eqb left 0) (eqb all u)
       (λ q. let z = eqb-true left 0 q in eq-eqb all u (omega (arith, none, z)))
       (λ q. let z = eqb-true all u q in eq-eqb left 0 (omega (arith, none, z)))
@@ -89,22 +108,6 @@ module _ (side : Match → ℕ) (P : List Match) (ws : List ℕ) (a : ℕ) (w : 
   unfolding uses_from
   each_end h = state_end (uses_from listing side P a) ws a w rest h
 
--- ---- the three tests one after the other
-
-module _ (P : List Match) (vs ws : List ℕ) (a : Bool) (p : a ≡ places_exist (length vs / 5) (length ws / 5) P) where
-  pub no_places : a ≡ false → false ≡ fits listing P (table_of vs) (table_of ws)
-  unfolding fits
-  no_places e = rw (length_table_of vs, length_table_of ws, ← p, e)
-
-  module _ (yes : a ≡ true) (b : Bool) (q : b ≡ uses_from listing (λ p. p.left) P 0 (table_of vs)) where
-    pub not_used : b ≡ false → false ≡ fits listing P (table_of vs) (table_of ws)
-    unfolding fits
-    not_used e = rw (length_table_of vs, length_table_of ws, ← p, yes, ← q, e)
-
-    pub all_used : b ≡ true → (c : Bool) → c ≡ uses_from listing (λ p. p.right) P 0 (table_of ws) → c ≡ fits listing P (table_of vs) (table_of ws)
-    unfolding fits
-    all_used e c r = rw (length_table_of vs, length_table_of ws, ← p, yes, ← q, e, ← r)
-
 -- ---- the entries
 
 -- `left` numbers of rows are left for the entries from i on
@@ -117,9 +120,6 @@ module _ (ns : List ℕ) (i left : ℕ) (w : Bool) (rest : (few_rows (drop i ns)
       → (b && few_rows (drop (i + 1) ns) && eqb left wanted) ≡ w
   unfolding rows_told
   entry_next h b e = rw e (list_next (λ ms. few_rows ms && eqb left (rows_told ms * 3)) ns i w rest 0 h)
-
-  pub entry_many : i < length ns → (b : Bool) → b ≡ (eqb (get_or ns i 0) no_rows || leb (get_or ns i 0) 1088) → b ≡ false → false ≡ w
-  entry_many h b e q = rw q at (entry_next h b e)
 
   pub entry_short : i < length ns → (b : Bool) → b ≡ (eqb (get_or ns i 0) no_rows || leb (get_or ns i 0) 1088) → b ≡ true
       → (n : ℕ) → n ≡ cond (eqb (get_or ns i 0) no_rows) 0 (get_or ns i 0) * 3 → left < n → false ≡ w
@@ -138,28 +138,3 @@ module _ (ns : List ℕ) (i left : ℕ) (w : Bool) (rest : (few_rows (drop i ns)
   pub entry_end : length ns ≤ i → eqb left 0 ≡ w
   unfolding rows_told
   entry_end h = list_end (λ ms. few_rows ms && eqb left (rows_told ms * 3)) ns i w rest h
-
--- an entry that has rows has few
-pub few_rows_lem : (n : ℕ) → (n ≡ no_rows → ⊥) → (eqb n no_rows || leb n 1088) ≡ true → n ≤ 1088
-few_rows_lem n other h = leb-true n 1088 (rw (ne_eqb n no_rows other) at h)
-
--- the entries are as many as the joins, or not
-pub form_other : (joins : ℕ) (ns rs : List ℕ) → (length ns ≡ joins → ⊥) → false ≡ in_form joins ns rs
-unfolding in_form
-form_other joins ns rs h = rw (ne_eqb (length ns) joins h)
-
-pub form_same : (joins : ℕ) (ns rs : List ℕ) → length ns ≡ joins → (few_rows ns && eqb (length rs) (rows_told ns * 3)) ≡ in_form joins ns rs
-unfolding in_form
-form_same joins ns rs h = rw (eq-eqb (length ns) joins h)
-
--- ---- the tests of one row: it has no unit, no place in the first table, or that in the second decides
-
-module _ (m k : ℕ) (rs : List ℕ) (r : ℕ) where
-  pub pair_none : get_or rs (r + 2) 0 ≡ 0 → false ≡ is_pair m k (row_at rs r)
-  pair_none e = rw e
-
-  pub pair_left : (get_or rs (r + 2) 0 ≡ 0 → ⊥) → m ≤ get_or rs r 0 → false ≡ is_pair m k (row_at rs r)
-  pair_left some e = rw (lt-ltb 0 (get_or rs (r + 2) 0) (omega arith), le-ltb (get_or rs r 0) m e)
-
-  pub pair_right : (get_or rs (r + 2) 0 ≡ 0 → ⊥) → get_or rs r 0 < m → ltb (get_or rs (r + 1) 0) k ≡ is_pair m k (row_at rs r)
-  pair_right some l = rw (lt-ltb 0 (get_or rs (r + 2) 0) (omega arith), lt-ltb (get_or rs r 0) m l)

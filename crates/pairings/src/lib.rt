@@ -19,18 +19,11 @@ pub const NONE: u64 = 18446744073709551615;
 pub fn joins_at(edges: &[u32], node: usize) -> usize
     ensures { result ≡ joins_at (edges_of edges.now) node }
 {
-    let mut many: usize = 0;
-    let mut e: usize = 0;
-    while e + 1 < edges.len() {
-        if edges[e + 1] as usize == node {
-            many += 1;
-        }
-        e += 2;
-    }
-    if many == 0 {
-        return 0;
-    }
-    many - 1
+    let many = edges
+        .chunks_exact(2)
+        .filter(|edge| edge[1] as usize == node)
+        .count();
+    many.saturating_sub(1)
 }
 
 // The joins at the nodes before `node`.
@@ -38,10 +31,8 @@ pub fn joins_to(edges: &[u32], node: usize) -> usize
     ensures { result ≡ joins_to (edges_of edges.now) node }
 {
     let mut joins: usize = 0;
-    let mut j: usize = 0;
-    while j < node {
+    for j in 0..node {
         joins += joins_at(edges, j);
-        j += 1;
     }
     joins
 }
@@ -69,6 +60,7 @@ fn numbers_of(many: u64) -> usize
 
 // Whether there is an entry for each of so many joins, none of more than 1,088 rows, and just as many rows as the entries say. What is left of the
 // rows is counted, which never wraps.
+#[tactic(auto, unfolding(rules::specs::Entries::in_form))]
 pub fn in_form(joins: usize, counts: &[u64], rows: &[u64]) -> bool
     ensures { result ≡ in_form joins counts.now rows.now }
 {
@@ -76,68 +68,58 @@ pub fn in_form(joins: usize, counts: &[u64], rows: &[u64]) -> bool
         return false;
     }
     let mut left = rows.len();
-    let mut i: usize = 0;
-    while i < counts.len() {
-        let many = counts[i];
-        if !is_few(many) {
+    for many in counts {
+        if !is_few(*many) {
             return false;
         }
-        let numbers = numbers_of(many);
+        let numbers = numbers_of(*many);
         if left < numbers {
             return false;
         }
         left -= numbers;
-        i += 1;
     }
     left == 0
 }
 
-// Whether the row at place `r` has at least 1 unit, and places that exist in tables of `m` and `k` states.
-fn is_pair(rows: &[u64], r: usize, m: usize, k: usize) -> bool
-    requires { r + 3 ≤ length rows.now }
-    ensures { result ≡ is_pair m k (row_at rows.now r) }
+// Whether a row has at least 1 unit, and places that exist in tables of `m` and `k` states.
+fn is_pair(row: &[u64], m: usize, k: usize) -> bool
+    requires { length row.now ≡ 3 }
+    ensures { result ≡ is_pair m k (row_at row.now 0) }
 {
-    if rows[r + 2] == 0 {
+    if row[2] == 0 {
         return false;
     }
-    if m as u64 <= rows[r] {
+    if m as u64 <= row[0] {
         return false;
     }
-    rows[r + 1] < k as u64
+    row[1] < k as u64
 }
 
 // Whether each row has.
 fn places_exist(rows: &[u64], m: usize, k: usize) -> bool
     ensures { result ≡ places_exist m k (rows_of rows.now) }
 {
-    let mut r: usize = 0;
-    while r + 2 < rows.len() {
-        if !is_pair(rows, r, m, k) {
-            return false;
-        }
-        r += 3;
-    }
-    true
+    rows.chunks_exact(3).all(|row| is_pair(row, m, k))
 }
 
-// The place that the row at place `r` has in the second table, or in the first.
-fn place_of(rows: &[u64], r: usize, second: bool) -> u64
-    requires { r + 3 ≤ length rows.now }
-    ensures { result ≡ side_of second (row_at rows.now r) }
+// The place that a row has in the second table, or in the first.
+fn place_of(row: &[u64], second: bool) -> u64
+    requires { length row.now ≡ 3 }
+    ensures { result ≡ side_of second (row_at row.now 0) }
 {
     if second {
-        return rows[r + 1];
+        return row[1];
     }
-    rows[r]
+    row[0]
 }
 
-// The units that the row at place `r` uses at a place of the second table, or of the first.
-fn used_by(rows: &[u64], r: usize, second: bool, place: u64) -> u64
-    requires { r + 3 ≤ length rows.now }
-    ensures { result ≡ used_by second place (row_at rows.now r) }
+// The units that a row uses at a place of the second table, or of the first.
+fn used_by(row: &[u64], second: bool, place: u64) -> u64
+    requires { length row.now ≡ 3 }
+    ensures { result ≡ used_by second place (row_at row.now 0) }
 {
-    if place_of(rows, r, second) == place {
-        return rows[r + 2];
+    if place_of(row, second) == place {
+        return row[2];
     }
     0
 }
@@ -147,14 +129,12 @@ fn spends(rows: &[u64], second: bool, place: u64, units: u64) -> bool
     ensures { result ≡ eqb (used_at (side_of second) place (rows_of rows.now)) units }
 {
     let mut left = units;
-    let mut r: usize = 0;
-    while r + 2 < rows.len() {
-        let used = used_by(rows, r, second, place);
+    for row in rows.chunks_exact(3) {
+        let used = used_by(row, second, place);
         if left < used {
             return false;
         }
         left -= used;
-        r += 3;
     }
     left == 0
 }
@@ -163,19 +143,18 @@ fn spends(rows: &[u64], second: bool, place: u64, units: u64) -> bool
 fn uses_each(words: &[u64], rows: &[u64], second: bool) -> bool
     ensures { result ≡ uses_from listing (side_of second) (rows_of rows.now) 0 (table_of words.now) }
 {
-    let mut a: usize = 0;
-    while a < words.len() / 5 {
+    for a in 0..words.len() / 5 {
         let s = state_at(words, a);
         let units = s.units;
         if !spends(rows, second, a as u64, units.0) {
             return false;
         }
-        a += 1;
     }
     true
 }
 
 // Whether the rows are accepted as a pairing of two tables: each has at least 1 unit, every place exists, and each state's units are used exactly.
+#[tactic(auto, using(words::proofs::Tables::length_table_of), unfolding(rules::specs::AnyTable::fits))]
 pub fn is_accepted(left: &[u64], right: &[u64], rows: &[u64]) -> bool
     ensures { result ≡ fits listing (rows_of rows.now) (table_of left.now) (table_of right.now) }
 {

@@ -1,10 +1,10 @@
 -- What the best case's call leaves for a list of numbers: one that is not complete is refused with 9, and otherwise what lies between the ends is what they mean.
+use Rattle.std.specs.Prelude.{Err}
 use mathlib.Core.Path.{◌≡◌, sym, ap, ◌∙◌}
 use mathlib.Core.Bool.{Bool, true, false, cond}
 use mathlib.Core.List.{List}
 use Prim.Native.Nat.{ℕ, ◌+◌, ◌-◌}
 use lib.ListN.{length, get_or, take, drop}
-use Rattle.rules.specs.declared.BestOutcome.TheVariants.{Refused as RefusedBest}
 use Rattle.rules.specs.declared.Refusal.TheVariants.{Text}
 use Rattle.best.specs.Call.{After, best_analysed}
 use Rattle.curve_numbers.specs.Parts.{tracked_part, runs_part, accesses_part, edges_part, complete}
@@ -20,13 +20,13 @@ module _ (Z v : ℕ) (ns rs ws : List ℕ) where
   abbrev either : Bool → After
   either b =
       cond b (of_parts (tracked_part ns).numbers (runs_part ns).numbers (accesses_part ns).numbers (edges_part ns).numbers)
-      (record { answer = RefusedBest Text; result = rs; work = ws })
+      (record { answer = Err Text; result = rs; work = ws })
 
   best_complete : complete ns ≡ true → best_numbers_left Z v ns rs ws ≡ either true
   unfolding best_numbers_left
   best_complete e = ap either e
 
-  pub best_incomplete : complete ns ≡ false → record { answer = RefusedBest Text; result = rs; work = ws } ≡ best_numbers_left Z v ns rs ws
+  pub best_incomplete : complete ns ≡ false → record { answer = Err Text; result = rs; work = ws } ≡ best_numbers_left Z v ns rs ws
   unfolding best_numbers_left
   best_incomplete e = sym (ap either e)
 

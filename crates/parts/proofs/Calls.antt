@@ -1,24 +1,19 @@
 -- What the graph call answers for a list of numbers, and what it leaves in rooms that are long enough: a list that is not complete is refused with 9, and otherwise
 -- the laws of the graph call hold of what the numbers mean.
+use Rattle.std.specs.Prelude.{Err, Ok, Result}
 use mathlib.Core.Path.{◌≡◌, refl, sym, ap, ◌∙◌}
 use mathlib.Core.Bool.{Bool, true, false, cond}
 use mathlib.Core.List.{List}
 use Prim.Native.Nat.{ℕ, ◌+◌, ◌-◌, ◌≤◌}
 use lib.ListN.{length, get_or, take, drop, replicate}
-use Rattle.rules.specs.declared.Length.{Length}
-use Rattle.rules.specs.declared.Length.TheVariants.{Accesses, Refused as RefusedLength}
-use Rattle.rules.specs.declared.Outcome.{Outcome}
-use Rattle.rules.specs.declared.Outcome.TheVariants.{Finished, Refused as RefusedOutcome}
 use Rattle.rules.specs.declared.Refusal.{Refusal}
 use Rattle.rules.specs.declared.Refusal.TheVariants.{Text}
 use Rattle.rules.specs.declared.Units.{Units}
-use Rattle.rules.specs.declared.Verdict.{Verdict}
-use Rattle.rules.specs.declared.Verdict.TheVariants.{Accepted, Refused}
 use Rattle.rules.specs.Units.{units}
-use Rattle.rules.specs.Answers.{outcome_says, length_says}
+use Rattle.rules.specs.Answers.{outcome_says, number_says, Outcome, Verdict, answer_or}
 use Rattle.rules.specs.Input.{Input, input_of}
 use Rattle.rules.specs.Graph.{finished}
-use Rattle.rules.specs.Longest.{longest, length_or, longest_answer}
+use Rattle.rules.specs.Longest.{longest, longest_answer}
 use Rattle.rules.specs.Questions.{is_table}
 use Rattle.rules.specs.Refusals.{verdict, answered, outcome}
 use Rattle.rules.proofs.Refusals.{numbered}
@@ -41,11 +36,11 @@ module _ (ch : Choice) (ns rs ws : List ℕ) where
 
   left_complete : complete ns ≡ true → numbers_left ch ns rs ws ≡ meant
   unfolding numbers_left
-  left_complete e = ap (λ (b : Bool). cond b meant (record { answer = RefusedOutcome Text; result = rs; work = ws })) e
+  left_complete e = ap (λ (b : Bool). cond b meant (record { answer = Err Text; result = rs; work = ws })) e
 
-  pub left_incomplete : complete ns ≡ false → record { answer = RefusedOutcome Text; result = rs; work = ws } ≡ numbers_left ch ns rs ws
+  pub left_incomplete : complete ns ≡ false → record { answer = Err Text; result = rs; work = ws } ≡ numbers_left ch ns rs ws
   unfolding numbers_left
-  left_incomplete e = sym (ap (λ (b : Bool). cond b meant (record { answer = RefusedOutcome Text; result = rs; work = ws })) e)
+  left_incomplete e = sym (ap (λ (b : Bool). cond b meant (record { answer = Err Text; result = rs; work = ws })) e)
 
   -- what lies between the ends is what the numbers mean
   pub left_between : (a b c : ℕ) → Ends ns a b c → (f : After) → f ≡ analysed (cache_from ch ns) (get_or ns 1 0) (take (a - 3) (drop 3 ns)) (take (b - (a + 1)) (drop (a + 1) ns)) (take (c - (b + 1)) (drop (b + 1) ns)) (take (length ns - (c + 1)) (drop (c + 1) ns)) rs ws
@@ -56,13 +51,13 @@ module _ (ch : Choice) (ns rs ws : List ℕ) where
 module _ (ch : Choice) (ns : List ℕ) where
   longest_complete : complete ns ≡ true → numbers_longest ch ns ≡ longest_answer (input_from ch ns)
   unfolding numbers_longest
-  longest_complete e = ap (λ (b : Bool). cond b (longest_answer (input_from ch ns)) (RefusedLength Text)) e
+  longest_complete e = ap (λ (b : Bool). cond b (longest_answer (input_from ch ns)) (Err Text)) e
 
-  pub longest_incomplete : complete ns ≡ false → RefusedLength Text ≡ numbers_longest ch ns
+  pub longest_incomplete : complete ns ≡ false → Err Text ≡ numbers_longest ch ns
   unfolding numbers_longest
-  longest_incomplete e = sym (ap (λ (b : Bool). cond b (longest_answer (input_from ch ns)) (RefusedLength Text)) e)
+  longest_incomplete e = sym (ap (λ (b : Bool). cond b (longest_answer (input_from ch ns)) (Err Text)) e)
 
-  pub longest_between : (a b c : ℕ) → Ends ns a b c → (r : Length) → r ≡ longest_answer (input_of (cache_from ch ns) (get_or ns 1 0) (take (a - 3) (drop 3 ns)) (take (b - (a + 1)) (drop (a + 1) ns)) (take (c - (b + 1)) (drop (b + 1) ns)) (take (length ns - (c + 1)) (drop (c + 1) ns)))
+  pub longest_between : (a b c : ℕ) → Ends ns a b c → (r : Result ℕ Refusal) → r ≡ longest_answer (input_of (cache_from ch ns) (get_or ns 1 0) (take (a - 3) (drop 3 ns)) (take (b - (a + 1)) (drop (a + 1) ns)) (take (c - (b + 1)) (drop (b + 1) ns)) (take (length ns - (c + 1)) (drop (c + 1) ns)))
       → r ≡ numbers_longest ch ns
   unfolding input_from
   longest_between a b c ends r e =
@@ -70,11 +65,11 @@ module _ (ch : Choice) (ns : List ℕ) where
 
   outcome_complete : complete ns ≡ true → numbers_outcome ch ns ≡ outcome (input_from ch ns)
   unfolding numbers_outcome
-  outcome_complete e = ap (λ (b : Bool). cond b (outcome (input_from ch ns)) (RefusedOutcome Text)) e
+  outcome_complete e = ap (λ (b : Bool). cond b (outcome (input_from ch ns)) (Err Text)) e
 
-  outcome_incomplete : complete ns ≡ false → numbers_outcome ch ns ≡ RefusedOutcome Text
+  outcome_incomplete : complete ns ≡ false → numbers_outcome ch ns ≡ Err Text
   unfolding numbers_outcome
-  outcome_incomplete e = ap (λ (b : Bool). cond b (outcome (input_from ch ns)) (RefusedOutcome Text)) e
+  outcome_incomplete e = ap (λ (b : Bool). cond b (outcome (input_from ch ns)) (Err Text)) e
 
 -- ---- with room for every state limit
 
@@ -84,7 +79,7 @@ pub record Called (ch : Choice) (ns : List ℕ) (r : Outcome) (rs ws rs' ws' : L
   pub answer : r ≡ numbers_outcome ch ns
   pub table : (outcome_says r).number ≡ 0 → take (outcome_says r).states (table_of rs') ≡ (finished (input_from ch ns)).table
   pub worked : (outcome_says r).number ≡ 0 → ws' ≡ replicate (length ws) 0
-  pub refused : (why : Refusal) → r ≡ RefusedOutcome why → (rs' ≡ rs) × (ws' ≡ ws)
+  pub refused : (why : Refusal) → r ≡ Err why → (rs' ≡ rs) × (ws' ≡ ws)
 
 pub called : (ch : Choice) (ns rs ws : List ℕ) → 320 ≤ length rs → 25920 ≤ length ws → (r : Outcome) (rs' ws' : List ℕ)
     → record { answer = r; result = rs'; work = ws' } ≡ numbers_left ch ns rs ws → Called ch ns r rs ws rs' ws'
@@ -112,11 +107,11 @@ called ch ns rs ws long long' r rs' ws' is = go (complete ns) refl
 
 -- ---- where it is worked
 
-finished_accepted : (i : Input) (n : ℕ) (a : Units) (v : Verdict) → answered v i ≡ Finished n a → v ≡ Accepted
-finished_accepted i n a Accepted e = refl
-finished_accepted i n a (Refused r) e = absurd (numbered r (ap (λ (q : Outcome). (outcome_says q).number) e))
+finished_accepted : (i : Input) (n : ℕ) (a : Units) (v : Verdict) → answered v i ≡ Ok (record { states = n; aside = a }) → v ≡ Ok tt
+finished_accepted i n a (Ok tt) e = refl
+finished_accepted i n a (Err r) e = absurd (numbered r (ap (λ (q : Outcome). (outcome_says q).number) e))
 
-module _ (ch : Choice) (ns : List ℕ) (n : ℕ) (a : Units) (f : Finished n a ≡ numbers_outcome ch ns) where
+module _ (ch : Choice) (ns : List ℕ) (n : ℕ) (a : Units) (f : Ok (record { states = n; aside = a }) ≡ numbers_outcome ch ns) where
   pub worked_complete : complete ns ≡ true
   worked_complete = go (complete ns) refl
     where
@@ -127,14 +122,14 @@ module _ (ch : Choice) (ns : List ℕ) (n : ℕ) (a : Units) (f : Finished n a �
   abbrev i : Input
   i = input_from ch ns
 
-  outcome_is : Finished n a ≡ outcome i
+  outcome_is : Ok (record { states = n; aside = a }) ≡ outcome i
   outcome_is = f ∙ outcome_complete ch ns worked_complete
 
-  pub worked_accepted : verdict i ≡ Accepted
+  pub worked_accepted : verdict i ≡ Ok tt
   unfolding outcome
   worked_accepted = finished_accepted i n a (verdict i) (sym outcome_is)
 
-  pub worked_says : Finished n a ≡ Finished (length (finished i).table) (units (finished i).aside)
+  pub worked_says : ◌≡◌ {A = Outcome} (Ok (record { states = n; aside = a })) (Ok (record { states = length (finished i).table; aside = units (finished i).aside }))
   unfolding outcome
   worked_says = outcome_is ∙ ap (λ (v : Verdict). answered v i) worked_accepted
 
@@ -143,19 +138,19 @@ module _ (ch : Choice) (ns : List ℕ) (n : ℕ) (a : Units) (f : Finished n a �
 
 -- ---- the longest path then
 
-module _ (ch : Choice) (ns : List ℕ) (all : complete ns ≡ true) (accepted : verdict (input_from ch ns) ≡ Accepted) (r : Length) (is : r ≡ numbers_longest ch ns) where
-  longest_says : r ≡ Accesses (longest (input_from ch ns))
+module _ (ch : Choice) (ns : List ℕ) (all : complete ns ≡ true) (accepted : verdict (input_from ch ns) ≡ Ok tt) (r : Result ℕ Refusal) (is : r ≡ numbers_longest ch ns) where
+  longest_says : r ≡ Ok (longest (input_from ch ns))
   unfolding longest_answer
-  longest_says = is ∙ longest_complete ch ns all ∙ ap (λ (v : Verdict). length_or v (input_from ch ns)) accepted
+  longest_says = is ∙ longest_complete ch ns all ∙ ap (λ (v : Verdict). answer_or v (longest (input_from ch ns))) accepted
 
-  pub longest_told : (m : ℕ) → r ≡ Accesses m → m ≡ longest (input_from ch ns)
-  longest_told m e = ap (λ (q : Length). (length_says q).value) (sym e ∙ longest_says)
+  pub longest_told : (m : ℕ) → r ≡ Ok m → m ≡ longest (input_from ch ns)
+  longest_told m e = ap (λ (q : Result ℕ Refusal). (number_says q).value) (sym e ∙ longest_says)
 
-  pub longest_not_refused : (why : Refusal) → r ≡ RefusedLength why → ⊥
-  longest_not_refused why e = numbered why (ap (λ (q : Length). (length_says q).number) (sym e ∙ longest_says))
+  pub longest_not_refused : (why : Refusal) → r ≡ Err why → ⊥
+  longest_not_refused why e = numbered why (ap (λ (q : Result ℕ Refusal). (number_says q).number) (sym e ∙ longest_says))
 
 -- the table that stands in the result room then
-pub table_there : (ch : Choice) (ns : List ℕ) (r : Outcome) (rs ws rs' ws' : List ℕ) → Called ch ns r rs ws rs' ws' → (n : ℕ) (a : Units) → r ≡ Finished n a
+pub table_there : (ch : Choice) (ns : List ℕ) (r : Outcome) (rs ws rs' ws' : List ℕ) → Called ch ns r rs ws rs' ws' → (n : ℕ) (a : Units) → r ≡ Ok (record { states = n; aside = a })
     → take n (table_of rs') ≡ (finished (input_from ch ns)).table
 table_there ch ns r rs ws rs' ws' call n a f =
     sym (ap (λ (q : Outcome). take (outcome_says q).states (table_of rs')) f) ∙ call.table (ap (λ (q : Outcome). (outcome_says q).number) f)

@@ -10,7 +10,7 @@ use best::analyse_best;
 use curve_numbers::{Choice, end_of};
 use estimate::analyse;
 use longest::longest_path;
-use rules::{BestOutcome, Cache, Length, Outcome, Refusal};
+use rules::{Cache, Finished, Refusal};
 
 // The graph call for numbers that are complete: the tracked blocks end at `first`, the run lengths at `second`, the accesses at `third`.
 fn call(
@@ -21,7 +21,7 @@ fn call(
     third: usize,
     res: &mut [u64],
     work: &mut [u64],
-) -> Outcome
+) -> Result<Finished, Refusal>
     requires { Ends numbers.now first second third × (3 ≤ first) × (first < second) × (second < third) × (third < length numbers.now) }
     ensures { record { answer = result; result = res.new; work = work.new } ≡ numbers_left choice numbers.now res.old work.old }
 {
@@ -44,7 +44,13 @@ fn call(
 }
 
 // The longest path for the same numbers.
-fn longest_in(choice: Choice, numbers: &[u32], first: usize, second: usize, third: usize) -> Length
+fn longest_in(
+    choice: Choice,
+    numbers: &[u32],
+    first: usize,
+    second: usize,
+    third: usize,
+) -> Result<u64, Refusal>
     requires { Ends numbers.now first second third × (3 ≤ first) × (first < second) × (second < third) × (third < length numbers.now) }
     ensures { result ≡ numbers_longest choice numbers.now }
 {
@@ -70,20 +76,20 @@ pub fn analyse_numbers(
     numbers: &[u32],
     res: &mut [u64],
     work: &mut [u64],
-) -> Outcome
+) -> Result<Finished, Refusal>
     ensures { record { answer = result; result = res.new; work = work.new } ≡ numbers_left choice numbers.now res.old work.old }
 {
     let first = end_of(numbers, 2, 1);
     let second = end_of(numbers, first, 1);
     let third = end_of(numbers, second, 1);
     if end_of(numbers, third, 2) != numbers.len() {
-        return Outcome::Refused(Refusal::Text);
+        return Err(Refusal::Text);
     }
     call(choice, numbers, first, second, third, res, work)
 }
 
 // The longest path for a list of numbers: 9 where one is missing or left over, and otherwise as `longest_path`.
-pub fn longest_of_numbers(choice: Choice, numbers: &[u32]) -> Length
+pub fn longest_of_numbers(choice: Choice, numbers: &[u32]) -> Result<u64, Refusal>
     ensures { result ≡ numbers_longest choice numbers.now }
 {
     let first = end_of(numbers, 2, 1);
@@ -91,7 +97,7 @@ pub fn longest_of_numbers(choice: Choice, numbers: &[u32]) -> Length
     let third = end_of(numbers, second, 1);
     let last = end_of(numbers, third, 2);
     if last != numbers.len() {
-        return Length::Refused(Refusal::Text);
+        return Err(Refusal::Text);
     }
     longest_in(choice, numbers, first, second, third)
 }
@@ -106,7 +112,7 @@ fn call_best(
     third: usize,
     res: &mut [u64],
     work: &mut [u64],
-) -> BestOutcome
+) -> Result<usize, Refusal>
     requires { Ends numbers.now first second third × (3 ≤ first) × (first < second) × (second < third) × (third < length numbers.now) }
     ensures { record { answer = result; result = res.new; work = work.new } ≡ best_numbers_left sets revision numbers.now res.old work.old }
 {
@@ -131,14 +137,14 @@ pub fn analyse_best_numbers(
     numbers: &[u32],
     res: &mut [u64],
     work: &mut [u64],
-) -> BestOutcome
+) -> Result<usize, Refusal>
     ensures { record { answer = result; result = res.new; work = work.new } ≡ best_numbers_left sets revision numbers.now res.old work.old }
 {
     let first = end_of(numbers, 2, 1);
     let second = end_of(numbers, first, 1);
     let third = end_of(numbers, second, 1);
     if end_of(numbers, third, 2) != numbers.len() {
-        return BestOutcome::Refused(Refusal::Text);
+        return Err(Refusal::Text);
     }
     call_best(sets, revision, numbers, first, second, third, res, work)
 }

@@ -11,8 +11,7 @@ use lib.ListN.{get_or}
 use borrow.Author.Tests.{eqb-true, eqb-false, eq-eqb, ne_eqb, lt-ltb, le-ltb}
 use Rattle.basics.proofs.Bools.{and_left}
 use Rattle.basics.proofs.Sums.{sum_le, sum_const, part_most}
-use Rattle.rules.specs.declared.Place.{Place}
-use Rattle.rules.specs.Contents.{places, among, bit, without, size}
+use Rattle.rules.specs.Contents.{places, among, bit, without, size, Place}
 use Rattle.rules.proofs.Contents.{size_sum, size_without}
 use Rattle.tight_rules.specs.Reduction.{is_at, lowered, lands}
 use Rattle.tight_rules.proofs.Parts.{lowered_part}

@@ -15,9 +15,8 @@ use borrow.Author.Tests.{eqb-true, eqb-false, eq-eqb, ne_eqb, lt-ltb, le-ltb, lt
 use Rattle.basics.specs.Sums.{sum_over}
 use Rattle.basics.proofs.Bools.{three, and_right}
 use Rattle.basics.proofs.Sums.{sum_on, on_eq, on_point}
-use Rattle.rules.specs.declared.Place.{Place}
 use Rattle.rules.specs.declared.State.{State}
-use Rattle.rules.specs.Contents.{places, among}
+use Rattle.rules.specs.Contents.{places, among, Place}
 use Rattle.rules.specs.Filling.{same_filled}
 use Rattle.rules.specs.Fold.{changed}
 use Rattle.rules.specs.Shape.{Every}

@@ -2,9 +2,8 @@
 -- units by mask, and n words behind them, where the units of each mask go, which is the mask itself where it is not emptied. Words that follow stay as they are.
 -- What it is a plan for is `reduced` (crate tight_rules): proofs/Reduced.antt.
 use Rattle.std.specs.Prelude.{◌≢◌, Bool, true, false, cond, ◌&&◌, not, List, ℕ, zero, suc, ◌+◌, ◌-◌, ◌^◌, ◌≤◌, ◌<◌, eqb, ltb, leb, length, get_or, set}
-use Rattle.rules.specs.declared.Place.{Place}
 use Rattle.rules.specs.declared.State.{State}
-use Rattle.rules.specs.Contents.{places}
+use Rattle.rules.specs.Contents.{places, Place}
 use Rattle.rules.specs.Units.{more}
 use Rattle.rules.specs.Table.{state, units_of}
 use Rattle.tight_rules.specs.Reduction.{lowered}

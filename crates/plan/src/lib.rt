@@ -9,7 +9,7 @@ ghost use Rattle.tight_rules.specs.Reduction.{is_at, lowered};
 ghost use Rattle.plan.specs.Plan.{plan_of, end_of, itself, some, present_in, start, poured, emptied, level, all_levels, planned, fewest, lightest, NoneBelow};
 ghost use Rattle.plan.specs.Next.{few, none_of_four, few_of_four, next_few};
 
-use rules::{Place, Units};
+use rules::Units;
 use tables::{has_place, without_place};
 
 // How many contents have units, and what is set aside.
@@ -20,17 +20,17 @@ pub struct Tally {
 }
 
 // Whether `held` is place `i`.
-fn is_at(held: Place, i: usize) -> bool
+fn is_at(held: Option<usize>, i: usize) -> bool
     ensures { result ≡ is_at held i }
 {
     match held {
-        Place::At(j) => j == i,
-        Place::Untracked => false,
+        Some(j) => j == i,
+        None => false,
     }
 }
 
 // Whether the block at place `i` can be taken away.
-fn can_lose(mask: u64, held: Place, i: usize) -> bool
+fn can_lose(mask: u64, held: Option<usize>, i: usize) -> bool
     ensures { result ≡ (bit mask (i % 64) && not (is_at held i)) }
 {
     if has_place(mask, i) {
@@ -40,12 +40,11 @@ fn can_lose(mask: u64, held: Place, i: usize) -> bool
 }
 
 // The contents without their highest place; the one at `held` does not count.
-fn lower(mask: u64, held: Place) -> u64
+#[tactic(auto, using(rules::proofs::Contents::sixteen_places), unfolding(tight_rules::specs::Reduction::lowered))]
+fn lower(mask: u64, held: Option<usize>) -> u64
     ensures { result ≡ lowered places held mask }
 {
-    let mut i: usize = 16;
-    while 0 < i {
-        i -= 1;
+    for i in (0..16).rev() {
         if can_lose(mask, held, i) {
             return without_place(mask, i);
         }
@@ -54,24 +53,24 @@ fn lower(mask: u64, held: Place) -> u64
 }
 
 // Where the units of `mask` go in the end, which is one of the `masks` contents.
+#[tactic(auto, using(rules::proofs::Contents::sixteen_places), unfolding(crate::specs::Plan::onward))]
 fn follow(words: &[u64], masks: usize, mask: u64) -> u64
     requires { masks + mask < length words.now }
     ensures { (result ≡ end_of masks words.now mask) × (result ≤ mask) }
 {
     let mut at = mask;
-    let mut left: usize = 16;
-    while 0 < left {
+    for _step in 0..16u32 {
         let next = words[masks + at as usize];
         if at <= next {
             return at;
         }
         at = next;
-        left -= 1;
     }
     at
 }
 
 // Where the units of `mask` go in the end, of `masks` contents; what is not one of them goes nowhere.
+#[tactic(auto, using(crate::proofs::Steps::onward_out))]
 pub fn end_of(words: &[u64], masks: usize, mask: u64) -> u64
     ensures { result ≡ end_of masks words.now mask }
 {
@@ -85,37 +84,25 @@ pub fn end_of(words: &[u64], masks: usize, mask: u64) -> u64
 }
 
 // Each of `masks` contents goes to itself.
+#[tactic(auto, unfolding(crate::specs::Plan::itself))]
 fn keep_all(words: &mut [u64], masks: usize)
     requires { masks + masks ≤ length words.old }
     ensures { words.new ≡ itself masks masks words.old }
 {
-    let mut m: usize = masks;
-    while 0 < m {
-        m -= 1;
+    for m in (0..masks).rev() {
         words[masks + m] = m as u64;
     }
 }
 
-// 1 if there are units, otherwise 0.
-fn one_if(units: u64) -> usize
-    ensures { result ≡ some units }
-{
-    if 0 < units {
-        return 1;
-    }
-    0
-}
-
 // How many of the contents have units.
+#[tactic(auto, using(crate::proofs::Steps::present_most), unfolding(crate::specs::Plan::present_in))]
 fn count(words: &[u64], masks: usize) -> usize
     requires { masks ≤ length words.now }
     ensures { result ≡ present_in masks words.now }
 {
     let mut present: usize = 0;
-    let mut m: usize = 0;
-    while m < masks {
-        present += one_if(words[m]);
-        m += 1;
+    for units in &words[..masks] {
+        present += usize::from(0 < *units);
     }
     present
 }
@@ -134,15 +121,14 @@ fn fewer(a: u64, b: u64) -> u64
 }
 
 // The fewest units of any contents that have some.
+#[tactic(auto, unfolding(crate::specs::Plan::lightest))]
 fn least(words: &[u64], masks: usize) -> u64
     requires { masks ≤ length words.now }
     ensures { result ≡ lightest masks words.now }
 {
     let mut low: u64 = 562949953421312;
-    let mut m: usize = 0;
-    while m < masks {
-        low = fewer(words[m], low);
-        m += 1;
+    for units in &words[..masks] {
+        low = fewer(*units, low);
     }
     low
 }
@@ -169,6 +155,7 @@ fn remaining(present: usize, there: u64) -> usize
 }
 
 // The units of `mask` go where they go in the end, and are set aside.
+#[tactic(auto, unfolding(crate::specs::Plan::poured))]
 fn pour(words: &mut [u64], masks: usize, mask: usize, t: Tally) -> Tally
     requires { (masks + masks ≤ length words.old) × (mask < masks) }
     ensures { plan_of words.new result ≡ poured masks mask (plan_of words.old t) }
@@ -185,7 +172,8 @@ fn pour(words: &mut [u64], masks: usize, mask: usize, t: Tally) -> Tally
 }
 
 // The contents `mask` are emptied, if they have a place to lose.
-fn empty(words: &mut [u64], masks: usize, held: Place, mask: usize, t: Tally) -> Tally
+#[tactic(auto, unfolding(crate::specs::Plan::emptied))]
+fn empty(words: &mut [u64], masks: usize, held: Option<usize>, mask: usize, t: Tally) -> Tally
     requires { (masks + masks ≤ length words.old) × (mask < masks) }
     ensures { plan_of words.new result ≡ cond (not (eqb (lowered places held mask) mask)) (emptied masks held mask (plan_of words.old t)) (plan_of words.old t) }
 {
@@ -208,6 +196,7 @@ fn is_few(units: u64, bound: u64) -> bool
 }
 
 // Whether none of four has units.
+#[tactic(auto, unfolding(crate::specs::Next::none_of_four))]
 fn none_of_four(a: u64, b: u64, c: u64, d: u64) -> bool
     ensures { result ≡ none_of_four a b c d }
 {
@@ -224,6 +213,7 @@ fn none_of_four(a: u64, b: u64, c: u64, d: u64) -> bool
 }
 
 // The highest of the four masks above `low` with fewer than `bound` units, but some; 0 where there is none. Where none of them has units, one test says so.
+#[tactic(auto, unfolding(crate::specs::Next::none_of_four, crate::specs::Next::highest))]
 fn few_of_four(words: &[u64], low: usize, bound: u64) -> usize
     requires { low + 4 < length words.now }
     ensures { result ≡ few_of_four bound words.now low }
@@ -251,26 +241,27 @@ fn few_of_four(words: &[u64], low: usize, bound: u64) -> usize
 }
 
 // The highest of the masks from `from` down to 1 with fewer than `bound` units, but some; 0 where there is none. It looks at one mask after the other.
+#[tactic(auto, using(crate::proofs::Steps::next_most), unfolding(crate::specs::Next::next_few))]
 fn next_singly(words: &[u64], from: usize, bound: u64) -> usize
     requires { from < length words.now }
     ensures { (result ≡ next_few bound words.now from) × (result ≤ from) }
 {
-    let mut m: usize = from;
-    while 0 < m {
+    for m in (1..=from).rev() {
         if is_few(words[m], bound) {
             return m;
         }
-        m -= 1;
     }
     0
 }
 
 // The same, four masks at a time.
+#[tactic(auto, using(crate::proofs::Steps::four_none))]
 fn next_few(words: &[u64], from: usize, bound: u64) -> usize
     requires { from < length words.now }
     ensures { (result ≡ next_few bound words.now from) × (result ≤ from) }
 {
     let mut m: usize = from;
+    // Four masks a step, from the top: what is below four is left to the search one by one.
     while 4 <= m {
         m -= 4;
         let found = few_of_four(words, m, bound);
@@ -282,10 +273,11 @@ fn next_few(words: &[u64], from: usize, bound: u64) -> usize
 }
 
 // One level: the contents from the highest mask down, each emptied where it has fewer than `bound` units and more than `limit` contents remain.
+#[tactic(auto, using(crate::proofs::Steps::level_few, crate::proofs::Steps::level_end, crate::proofs::Steps::level_none, crate::proofs::Steps::level_idle))]
 fn walk(
     words: &mut [u64],
     masks: usize,
-    held: Place,
+    held: Option<usize>,
     limit: usize,
     bound: u64,
     before: Tally,
@@ -295,6 +287,7 @@ fn walk(
 {
     let mut t = before;
     let mut m: usize = masks;
+    // From one mask with few units to the next below it: no index is counted.
     while 1 < m {
         if t.present <= limit {
             return t;
@@ -310,10 +303,11 @@ fn walk(
 }
 
 // One level, if there may be something to do at it: no contents that have units have fewer than `low`, unless that is fewer than `bound`.
+#[tactic(auto, using(crate::proofs::Steps::level_heavy))]
 fn climb_one(
     words: &mut [u64],
     masks: usize,
-    held: Place,
+    held: Option<usize>,
     limit: usize,
     bound: u64,
     low: u64,
@@ -332,7 +326,7 @@ fn climb_one(
 fn climb(
     words: &mut [u64],
     masks: usize,
-    held: Place,
+    held: Option<usize>,
     limit: usize,
     low: u64,
     before: Tally,
@@ -341,21 +335,18 @@ fn climb(
     ensures { plan_of words.new result ≡ all_levels limit masks held (plan_of words.old before) }
 {
     let mut t = before;
-    let mut bound: u64 = 2;
-    let mut j: usize = 1;
-    while j < 50 {
+    for height in 1..50u32 {
         if t.present <= limit {
             return t;
         }
-        t = climb_one(words, masks, held, limit, bound, low, t);
-        bound *= 2;
-        j += 1;
+        t = climb_one(words, masks, held, limit, 1 << height, low, t);
     }
     t
 }
 
 // All levels, from the units of each of the contents on, if there are more than `limit`.
-fn climb_all(words: &mut [u64], masks: usize, held: Place, limit: usize) -> Tally
+#[tactic(auto, using(crate::proofs::Steps::lightest_least))]
+fn climb_all(words: &mut [u64], masks: usize, held: Option<usize>, limit: usize) -> Tally
     requires { masks + masks ≤ length words.old }
     ensures { plan_of words.new result ≡ all_levels limit masks held (start masks words.old) }
 {
@@ -372,7 +363,8 @@ fn climb_all(words: &mut [u64], masks: usize, held: Place, limit: usize) -> Tall
 
 // The plan of a reduction to at most `limit` of `masks` contents, whose units `words` begins with: where the units of each go is in the words behind them. The block at `held` is
 // never taken away.
-pub fn reduce(words: &mut [u64], masks: usize, held: Place, limit: usize) -> Tally
+#[tactic(auto, unfolding(crate::specs::Plan::planned))]
+pub fn reduce(words: &mut [u64], masks: usize, held: Option<usize>, limit: usize) -> Tally
     ensures { plan_of words.new result ≡ planned limit masks held words.old }
 {
     if words.len() / 2 < masks {

@@ -1,5 +1,6 @@
 -- How long the text is: no curve has more than 262,144 bytes, and no curves in cycles have more than 3,145,728, whatever the numbers are. A table of an accepted input has
 -- 4,097 miss counts at most, since the longest path has 4,096 accesses at most.
+use Rattle.std.specs.Prelude.{Ok}
 use mathlib.Core.Path.{◌≡◌, sym}
 use mathlib.Core.List.{List, ◌++◌}
 use Prim.Native.Nat.{ℕ, zero, suc, ◌*◌, ◌≤◌}
@@ -8,7 +9,6 @@ use native.Mathlib.Omega.{arith}
 use lib.ListN.{length, drop, length-append}
 use Rattle.rules.specs.declared.Core.{Core}
 use Rattle.rules.specs.declared.State.{State}
-use Rattle.rules.specs.declared.Verdict.TheVariants.{Accepted}
 use Rattle.rules.specs.Input.{Input}
 use Rattle.rules.specs.Graph.{finished}
 use Rattle.rules.specs.Refusals.{verdict}
@@ -64,7 +64,7 @@ lines_long line w each (suc n) = omega (arith, length-append (lines_below line n
 
 -- ---- the text of an accepted input
 
-module _ (i : Input) (ok : verdict i ≡ Accepted) where
+module _ (i : Input) (ok : verdict i ≡ Ok tt) where
   abbrev table : List State
   table = (finished i).table
 

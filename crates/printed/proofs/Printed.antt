@@ -1,13 +1,12 @@
 -- What is printed for numbers that are complete and accepted: the lines of the finished table of what they mean, in misses, and in cycles with the longest path's accesses.
+use Rattle.std.specs.Prelude.{Ok}
 use mathlib.Core.Path.{◌≡◌, sym, ap₂}
 use mathlib.Core.Bool.{Bool, true, cond}
 use mathlib.Core.List.{List, ◌++◌}
 use Prim.Native.Nat.{ℕ}
 use lib.ListN.{length}
 use Rattle.rules.specs.declared.Refusal.TheVariants.{Text}
-use Rattle.rules.specs.declared.Verdict.{Verdict}
-use Rattle.rules.specs.declared.Verdict.TheVariants.{Accepted}
-use Rattle.rules.specs.Answers.{number_of}
+use Rattle.rules.specs.Answers.{number_of, Verdict}
 use Rattle.rules.specs.Input.{Input}
 use Rattle.rules.specs.Graph.{finished}
 use Rattle.rules.specs.Refusals.{verdict}
@@ -23,7 +22,7 @@ use Rattle.printed.specs.Printed.{of_input, of_numbers}
 use Rattle.printed.specs.Curve.{curve}
 use Rattle.printed.specs.Cycles.{in_cycles}
 
-module _ (ch : Choice) (ns : List ℕ) (ok : complete ns ≡ true) (accepted : verdict (input_from ch ns) ≡ Accepted) where
+module _ (ch : Choice) (ns : List ℕ) (ok : complete ns ≡ true) (accepted : verdict (input_from ch ns) ≡ Ok tt) where
   abbrev i : Input
   i = input_from ch ns
 

@@ -8,8 +8,8 @@ use native.Mathlib.Nat.{le_trans}
 use borrow.Author.Tests.{leb-true, le-leb, lt-leb}
 use lib.Dec.{leb}
 use lib.ListN.{length, replicate}
+use Rattle.std.specs.Prelude.{Some, None}
 use Rattle.basics.proofs.Bools.{and_left, and_right}
-use Rattle.writing.specs.declared.Written.TheVariants.{Bytes, NoRoom}
 use Rattle.writing.specs.Put.{Put}
 use Rattle.writing.proofs.Putting.{put_whole}
 use Rattle.printed.specs.Rooms.{Rooms, Wrote, long_enough, enough, NumbersWritten, written, text_written}
@@ -42,22 +42,22 @@ pub wrote_same : (worked worked' : Bool) (bs bs' : List ℕ) (e : ℕ) (a b : Ro
 wrote_same worked worked' bs bs' e a b done p q = subst (λ (w : Bool). Wrote w bs' e a b) p (subst (λ (t : List ℕ). Wrote worked t e a b) q done)
 
 module _ (bytes : ℕ) (worked : Bool) (bs : List ℕ) (r : Rooms) where
-  pub written_none : enough bytes r ≡ false → record { answer = NoRoom; rooms = r } ≡ written (enough bytes r) worked bs r
+  pub written_none : enough bytes r ≡ false → record { answer = None; rooms = r } ≡ written (enough bytes r) worked bs r
   written_none h = rw h
 
   pub written_all : length bs ≤ bytes → enough bytes r ≡ true → (e : ℕ) (rs ws cs o : List ℕ) → Wrote worked bs e r (record { result = rs; work = ws; counts = cs; output = o })
-      → record { answer = Bytes e; rooms = record { result = rs; work = ws; counts = cs; output = o } } ≡ written (enough bytes r) worked bs r
+      → record { answer = Some e; rooms = record { result = rs; work = ws; counts = cs; output = o } } ≡ written (enough bytes r) worked bs r
   written_all short h e rs ws cs o done =
       let long = output_long bytes (length r.result) (length r.work) (length r.counts) (length r.output) h in
       let all = put_whole bs e r.output o done.put (le_trans short long) in
-      rw h (λ i. record { answer = Bytes (all i).end; rooms = record { result = done.result i; work = done.work i; counts = done.counts i; output = (all i).room } })
+      rw h (λ i. record { answer = Some (all i).end; rooms = record { result = done.result i; work = done.work i; counts = done.counts i; output = (all i).room } })
 
 module _ (bytes : ℕ) (worked : Bool) (bs numbers : List ℕ) (r : Rooms) where
-  pub few_numbers : length numbers < 16384 → record { answer = NoRoom; numbers = numbers; rooms = r } ≡ text_written (enough bytes r) worked bs numbers r
+  pub few_numbers : length numbers < 16384 → record { answer = None; numbers = numbers; rooms = r } ≡ text_written (enough bytes r) worked bs numbers r
   few_numbers l = rw (lt-leb 16384 (length numbers) l)
 
   module _ (l : 16384 ≤ length numbers) where
-    pub text_none : enough bytes r ≡ false → record { answer = NoRoom; numbers = numbers; rooms = r } ≡ text_written (enough bytes r) worked bs numbers r
+    pub text_none : enough bytes r ≡ false → record { answer = None; numbers = numbers; rooms = r } ≡ text_written (enough bytes r) worked bs numbers r
     text_none h = rw (le-leb 16384 (length numbers) l, h)
 
     pub text_all : enough bytes r ≡ true → (a : NumbersWritten) (ns : List ℕ) → ns ≡ replicate (length numbers) 0 → a ≡ written (enough bytes r) worked bs r

@@ -1,7 +1,5 @@
 -- What a call leaves: its answer, and the rooms that were lent.
-use Rattle.std.specs.Prelude.{◌≡◌, Bool, true, false, ◌&&◌, List, ◌++◌, ℕ, leb, length, drop}
-use Rattle.writing.specs.declared.Written.{Written}
-use Rattle.writing.specs.declared.Written.TheVariants.{Bytes, NoRoom}
+use Rattle.std.specs.Prelude.{◌≡◌, Bool, true, false, ◌&&◌, List, ◌++◌, ℕ, leb, length, drop, Option, Some, None}
 use Rattle.writing.specs.Put.{Put}
 use Rattle.writing.specs.Told.{text_worked, zero_if}
 use Rattle.printed.specs.Printed.{numbers_worked}
@@ -41,16 +39,16 @@ pub record Wrote (worked : Bool) (text : List ℕ) (r : ℕ) (a b : Rooms) : Typ
 
 -- ---- a list of numbers
 
--- the answer, and the rooms then
+-- the answer, how many bytes were written, or None because a room is too short; and the rooms then
 pub record NumbersWritten : Type 0 where
-  pub answer : Written
+  pub answer : Option ℕ
   pub rooms : Rooms
 
 -- where the rooms are long enough, the text is at the front of the output, and all that was worked in is zero; otherwise nothing is written
 abbrev pub written : Bool → Bool → List ℕ → Rooms → NumbersWritten
 written true worked text r =
     record {
-      answer = Bytes (length text);
+      answer = Some (length text);
       rooms = record {
         result = zero_if worked r.result;
         work = zero_if worked r.work;
@@ -58,7 +56,7 @@ written true worked text r =
         output = text ++ drop (length text) r.output;
       };
     }
-written false worked text r = record { answer = NoRoom; rooms = r }
+written false worked text r = record { answer = None; rooms = r }
 
 -- after the curve
 unfoldable pub after_numbers : List ℕ → Rooms → NumbersWritten
@@ -72,7 +70,7 @@ after_cycles_of_numbers ns r = written (enough cycles_bytes r) (numbers_worked p
 
 -- the answer, the room for numbers and the other rooms then
 pub record TextWritten : Type 0 where
-  pub answer : Written
+  pub answer : Option ℕ
   pub numbers : List ℕ
   pub rooms : Rooms
 

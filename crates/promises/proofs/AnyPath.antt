@@ -1,6 +1,7 @@
 -- Along a path, for any kind of table and any pairings that are handed in: what holds of an access, a fold of any two places and a join of two tables
 -- by any pairing that uses their units exactly holds from the first access of a run to its
 -- last, at the joins of a node and from node to node, whichever edges the path takes. R is ≤ for a bound from above, and ≥ for one from below.
+use Rattle.std.specs.Prelude.{None, Some}
 use mathlib.Core.Path.{◌≡◌, refl, sym, ap, ◌∙◌, subst}
 use mathlib.Core.Bool.{true, true≢false}
 use mathlib.Core.Logic.{inr}
@@ -16,9 +17,7 @@ use Rattle.basics.proofs.Bools.{or_left}
 use Rattle.rules.specs.declared.Pair.{Pair}
 use Rattle.rules.specs.declared.Target.{Target}
 use Rattle.rules.specs.Units.{whole}
-use Rattle.rules.specs.declared.Last.{Last}
-use Rattle.rules.specs.declared.Last.TheVariants.{Block as block, Unknown as unknown}
-use Rattle.rules.specs.Contents.{among, last_after, target_of}
+use Rattle.rules.specs.Contents.{among, last_after, target_of, Last}
 use Rattle.rules.specs.Input.{Input, nodes, run_of, edges_of, predecessors, joins_to}
 use Rattle.rules.specs.Lasts.{last_before, node_last, lasts_to}
 use Rattle.rules.specs.Shape.{Every, Present, Sound}
@@ -117,15 +116,15 @@ module _ {A W : Type 0} {k : Kind A} {N : ℕ} {X : Target → Type 0} {P : ℕ 
     run_carries Z ts aims f g M o (b ∷ bs) w t =
         rw (pow-succ' N (length bs), regroup (worth_to f (run k N Z K ts o (b ∷ bs) w).table))
         (c.onward _ _ _
-        (advance_carries M (target_of Z ts o b) (aims o b) (along ahead (targets_of Z ts (block b) bs) f) (good_along (targets_of Z ts (block b) bs) (all (block b) bs) f g) w t)
-        (c.times N _ _ (run_carries Z ts aims f g (suc M) (block b) bs (advance k N K (target_of Z ts o b) w) (sound_advance c.follows K room M (target_of Z ts o b) w (aims o b) t))))
+        (advance_carries M (target_of Z ts o b) (aims o b) (along ahead (targets_of Z ts (Some b) bs) f) (good_along (targets_of Z ts (Some b) bs) (all (Some b) bs) f g) w t)
+        (c.times N _ _ (run_carries Z ts aims f g (suc M) (Some b) bs (advance k N K (target_of Z ts o b) w) (sound_advance c.follows K room M (target_of Z ts o b) w (aims o b) t))))
       where
         regroup : (n : ℕ) → N * N ^ length bs * n ≡ N * (N ^ length bs * n)
         regroup n = omega arith
 
         all : (o : Last) (bs : List ℕ) → Every X (targets_of Z ts o bs)
         all o [] = tt
-        all o (b ∷ bs) = (aims o b, all (block b) bs)
+        all o (b ∷ bs) = (aims o b, all (Some b) bs)
 
     -- ---- the joins at a node
 
@@ -206,7 +205,7 @@ first_start k q p i ok = ap (enter_by k p i.limit (k.start i) (worked_by k q i 0
 abbrev pub known : Input → ℕ → Last
 known i j = last_before (lasts_to i j) (predecessors (edges_of i.edges) j)
 
-pub first_known : (i : Input) → Checked i → known i 0 ≡ unknown
+pub first_known : (i : Input) → Checked i → known i 0 ≡ None
 unfolding last_before
 first_known i ok = ap (last_before (lasts_to i 0)) (no_predecessors i ok)
 
@@ -218,7 +217,7 @@ last_on o p (b ∷ bs) v = inr refl
 pub last_append : (o : Last) (p q : List ℕ) → last_after o (p ++ q) ≡ last_after (last_after o p) q
 unfolding last_after
 last_append o [] q = refl
-last_append o (b ∷ p) q = last_append (block b) p q
+last_append o (b ∷ p) q = last_append (Some b) p q
 
 -- ---- from node to node
 
@@ -243,7 +242,7 @@ module _ {A W : Type 0} {k : Kind A} {X : Target → Type 0} {P : ℕ → A → 
     where
       all : (o : Last) (bs : List ℕ) → Every X (targets o bs)
       all o [] = tt
-      all o (b ∷ bs) = (aims o b, all (block b) bs)
+      all o (b ∷ bs) = (aims o b, all (Some b) bs)
 
   abbrev NodeIs : List A → Type 0
   NodeIs T = Sound k.listing (P (length i.accesses)) i.limit T
@@ -298,14 +297,14 @@ module _ {A W : Type 0} {k : Kind A} {X : Target → Type 0} {P : ℕ → A → 
   module _ (vague : Vague) where
     -- the accesses p lead from the start to T, and o is known of the last of them
     record Covers (p : List ℕ) (T : List A) (o : Last) : Type 0 where
-      stands : (f : W) → Good f → R (whole * weigh (before unknown p f) (k.start i)) (N ^ length p * worth_at f T)
-      last : Vaguer o (last_after unknown p)
+      stands : (f : W) → Good f → R (whole * weigh (before None p f) (k.start i)) (N ^ length p * worth_at f T)
+      last : Vaguer o (last_after None p)
 
     -- and on to the next node
     covers_on : (p : List ℕ) (a b : ℕ) → among (predecessors (edges_of i.edges) b) a ≡ true → Covers p (node_table k q i a) (last_of i a)
         → Covers (p ++ run_of i b) (node_table k q i b) (last_of i b)
     unfolding node_last
-    covers_on p a b e c' = record { stands = on; last = rw (last_append unknown p bs) (last_on (known i b) (last_after unknown p) bs less) }
+    covers_on p a b e c' = record { stands = on; last = rw (last_append None p bs) (last_on (known i b) (last_after None p) bs less) }
       where
         bs : List ℕ
         bs = run_of i b
@@ -313,30 +312,30 @@ module _ {A W : Type 0} {k : Kind A} {X : Target → Type 0} {P : ℕ → A → 
         here : b < nodes i
         here = (predecessor_lower i ok a b e).1
 
-        less : Vaguer (known i b) (last_after unknown p)
+        less : Vaguer (known i b) (last_after None p)
         less = vaguer_trans _ _ _ (node_known b here a e) c'.last
 
         regroup : (n : ℕ) → N ^ length p * N ^ length bs * n ≡ N ^ length p * (N ^ length bs * n)
         regroup n = omega arith
 
-        on : (f : W) → Good f → R (whole * weigh (before unknown (p ++ bs) f) (k.start i)) (N ^ length (p ++ bs) * worth_at f (node_table k q i b))
+        on : (f : W) → Good f → R (whole * weigh (before None (p ++ bs) f) (k.start i)) (N ^ length (p ++ bs) * worth_at f (node_table k q i b))
         on f g =
             rw (
-              targets_append i.sets i.tracked unknown p bs,
-              along_append ahead (targets unknown p) (targets (last_after unknown p) bs) f,
+              targets_append i.sets i.tracked None p bs,
+              along_append ahead (targets None p) (targets (last_after None p) bs) f,
               length-append p bs,
               pow-add N (length p) (length bs),
               regroup (worth_at f (node_table k q i b)),
             )
-            (c.onward _ _ _ (c'.stands (before (last_after unknown p) bs f) (good_before (last_after unknown p) bs f g))
+            (c.onward _ _ _ (c'.stands (before (last_after None p) bs f) (good_before (last_after None p) bs f g))
             (c.times (N ^ length p) _ _
-            (c.onward _ _ _ (vague f g (length i.accesses) (known i b) (last_after unknown p) less bs (node_table k q i a)
+            (c.onward _ _ _ (vague f g (length i.accesses) (known i b) (last_after None p) less bs (node_table k q i a)
             (node_is a (omega (arith, here, (predecessor_lower i ok a b e).0))).shaped)
             (node_leads b here a e f g))))
 
     -- every path from first node to last leads from the start to the finished table
     pub path_covers : (path : List ℕ) → is_path i path ≡ true → (f : W) → Good f
-        → R (whole * weigh (before unknown (accesses_of i path) f) (k.start i)) (N ^ length (accesses_of i path) * worth_at f (finished_by k q i).table)
+        → R (whole * weigh (before None (accesses_of i path) f) (k.start i)) (N ^ length (accesses_of i path) * worth_at f (finished_by k q i).table)
     unfolding node_last
     path_covers path h =
         rw (finished_table k q i ok.some_nodes) (along_path i (λ p a. Covers p (node_table k q i a) (last_of i a)) covers_on begun path h).stands
@@ -346,8 +345,8 @@ module _ {A W : Type 0} {k : Kind A} {X : Target → Type 0} {P : ℕ → A → 
             record {
               stands = λ f g.
                   subst (λ (n : ℕ). R n (N ^ length (run_of i 0) * worth_at f (node_table k q i 0)))
-                  (ap (λ (u : ℕ). u * weigh (before unknown (run_of i 0) f) (k.start i) + 0) starts.all ∙ omega arith)
-                  (subst (λ (w : Work A). R (worth_at (before unknown (run_of i 0) f) w.table) (N ^ length (run_of i 0) * worth_at f (node_table k q i 0)))
+                  (ap (λ (u : ℕ). u * weigh (before None (run_of i 0) f) (k.start i) + 0) starts.all ∙ omega arith)
+                  (subst (λ (w : Work A). R (worth_at (before None (run_of i 0) f) w.table) (N ^ length (run_of i 0) * worth_at f (node_table k q i 0)))
                   (first_start k q (entries 0) i ok)
                   (subst (λ (o : Last). R (worth_at (before o (run_of i 0) f) (entered 0).table) (N ^ length (run_of i 0) * worth_at f (node_table k q i 0)))
                   (first_known i ok) (node_run 0 ok.some_nodes f g)));

@@ -1,5 +1,6 @@
 -- The machine along a path of an accepted input, where every access is tracked: what an exact state is worth along the accesses ahead, with a weight of misses
 -- and hits, is what the machine does, since each access is a hit or a miss. The weights are 1 above a number of misses, or of hits.
+use Rattle.std.specs.Prelude.{None, Some}
 use mathlib.Core.Path.{◌≡◌, refl, ap, ap₂, ◌∙◌}
 use mathlib.Core.Logic.{◌≢◌}
 use mathlib.Core.Bool.{Bool, true, false, cond}
@@ -17,11 +18,7 @@ use Rattle.machine.specs.Draws.{count_from, count}
 use Rattle.machine.proofs.Draws.{total}
 use Rattle.rules.specs.declared.Target.{Target}
 use Rattle.rules.specs.declared.BestState.{BestState}
-use Rattle.rules.specs.declared.Place.{Place}
-use Rattle.rules.specs.declared.Place.TheVariants.{At as at, Untracked as untracked}
-use Rattle.rules.specs.declared.Last.{Last}
-use Rattle.rules.specs.declared.Last.TheVariants.{Block as block, Unknown as unknown}
-use Rattle.rules.specs.Contents.{among, find, has, hits, is_last, with, without, shared, held, size, all_tracked, target_of}
+use Rattle.rules.specs.Contents.{among, find, has, hits, is_last, with, without, shared, held, size, all_tracked, target_of, Last, Place}
 use Rattle.rules.specs.Filling.{evenly}
 use Rattle.rules.specs.Input.{Input, run_of, offset}
 use Rattle.rules.specs.Units.{whole}
@@ -63,9 +60,9 @@ module _ (G : ℕ → ℕ → ℕ) (N Z L : ℕ) (ts : List ℕ) (few : N ≤ 16
   tracked_has : (b C : ℕ) (r : Bool) → among ts b ≡ true → has C r (find ts b) ≡ has C false (find ts b)
   tracked_has b C r h = go (find ts b) (among_found ts b h)
     where
-      go : (x : Place) → x ≢ untracked → has C r x ≡ has C false x
-      go (at i) n = refl
-      go untracked n = absurd (n refl)
+      go : (x : Place) → x ≢ None → has C r x ≡ has C false x
+      go (Some i) n = refl
+      go None n = absurd (n refl)
 
   set_below : (l : Last) (b : ℕ) → (target_of Z ts l b).set < Z
   unfolding target_of
@@ -81,8 +78,8 @@ module _ (G : ℕ → ℕ → ℕ) (N Z L : ℕ) (ts : List ℕ) (few : N ≤ 16
   hits_are l [] C m h all e = ap (G m) (omega arith)
   hits_are l (b ∷ bs) C m h all e =
       rw (full_risk N Z few few_sets x set C, full_more N Z few few_sets x set, hit_same)
-      (go (has C false x.place) (hits_are (block b) bs C m (suc h) rest (omega arith))
-      (λ D. hits_are (block b) bs (with D x.place) (suc m) h rest (omega arith)))
+      (go (has C false x.place) (hits_are (Some b) bs C m (suc h) rest (omega arith))
+      (λ D. hits_are (Some b) bs (with D x.place) (suc m) h rest (omega arith)))
     where
       x : Target
       x = target_of Z ts l b
@@ -97,7 +94,7 @@ module _ (G : ℕ → ℕ → ℕ) (N Z L : ℕ) (ts : List ℕ) (few : N ≤ 16
       hit_same = hit_tracked l b C (and_left (among ts b) _ all)
 
       q : List Target
-      q = targets_of Z ts (block b) bs
+      q = targets_of Z ts (Some b) bs
 
       go : (c : Bool) → exact_value (λ D m h. G m h) N q C m (suc h) ≡ value weight N q C m (evenly Z N)
           → ((D : ℕ) → exact_value (λ D m h. G m h) N q (with D x.place) (suc m) h ≡ value weight N q (with D x.place) (suc m) (evenly Z N))
@@ -144,7 +141,7 @@ module _ (i : Input) (ok : BestChecked i) (G : ℕ → ℕ → ℕ) where
   best_within grows path h =
       rw (
         machine,
-        ← hits_are G i.ways i.sets (length p) i.tracked c.few_ways c.some_sets c.few_sets unknown p 0 0 0 all (omega arith),
+        ← hits_are G i.ways i.sets (length p) i.tracked c.few_ways c.some_sets c.few_sets None p 0 0 0 all (omega arith),
       )
       (path_within i ok.checked path h (λ D m h. G m h) G
       (record { exact_grows = λ C m n h g a b r. grows m n h g a b; open_grows = grows; open_below = λ C m h r. le_refl (G m h) }))
@@ -159,7 +156,7 @@ module _ (i : Input) (ok : BestChecked i) (G : ℕ → ℕ → ℕ) where
       all = tracked_path i ok.all_tracked_fact path
 
       -- the machine of the first revision, in which every way may be filled at the start
-      machine : ends p ≡ value (λ D n F. G n (length p - n)) i.ways (targets_of i.sets i.tracked unknown p) 0 0 (evenly i.sets i.ways)
+      machine : ends p ≡ value (λ D n F. G n (length p - n)) i.ways (targets_of i.sets i.tracked None p) 0 0 (evenly i.sets i.ways)
       machine = rw ok.first_revision at (machine_even i c (first_filled i c ok.first_revision) p all (λ D n F. G n (length p - n)))
 
 -- ---- above a number

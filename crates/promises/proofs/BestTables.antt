@@ -1,5 +1,6 @@
 -- What an access, a fold of any two places and a join by any pairing that uses each state's units exactly do to the worth of a best case's table, for weights
 -- that grow with the counts: none of them adds to it. So along a path (AnyPath).
+use Rattle.std.specs.Prelude.{None}
 use mathlib.Core.Path.{◌≡◌, refl, ap}
 use mathlib.Core.Bool.{Bool, true, false, cond}
 use mathlib.Core.List.{List, [], ◌∷◌, flat_map}
@@ -16,9 +17,7 @@ use Rattle.rules.specs.declared.Target.{Target}
 use Rattle.rules.specs.declared.BestState.{BestState}
 use Rattle.rules.specs.Units.{whole}
 use Rattle.rules.specs.Ordered.{remove}
-use Rattle.rules.specs.Contents.{has, with, without, shared, held, size, target_of}
-use Rattle.rules.specs.declared.Last.{Last}
-use Rattle.rules.specs.declared.Last.TheVariants.{Unknown as unknown}
+use Rattle.rules.specs.Contents.{has, with, without, shared, held, size, target_of, Last}
 use Rattle.rules.specs.Input.{Input}
 use Rattle.rules.specs.Shape.{Every, Present, Aimed, BestLoose}
 use Rattle.rules.specs.AnyTable.{Match, no_pairings, total, at, Work, access, fold_at, paired, finished}
@@ -220,10 +219,10 @@ module _ (N Z : ℕ) (ts : List ℕ) (some : 0 < N) (few : N ≤ 16) where
 -- every path from first node to last leads from the start to the finished table; the block accessed directly before changes nothing
 pub path_within : (i : Input) → Checked i → (path : List ℕ) → is_path i path ≡ true → (e : ℕ → ℕ → ℕ → ℕ) (o : ℕ → ℕ → ℕ) → Grows i.ways i.sets i.tracked e o
     → i.ways ^ length (accesses_of i path) * worth listing (weigh e o) (finished kind i).table
-    ≤ whole * exact_value e i.ways (targets_of i.sets i.tracked unknown (accesses_of i path)) 0 0 0
+    ≤ whole * exact_value e i.ways (targets_of i.sets i.tracked None (accesses_of i path)) 0 0 0
 unfolding target_of
 path_within i ok path h e o grows =
-    rw (← exact_along N Z ts ok.some_ways ok.few_ways (e, o) (targets_of Z ts unknown (accesses_of i path)))
+    rw (← exact_along N Z ts ok.some_ways ok.few_ways (e, o) (targets_of Z ts None (accesses_of i path)))
     (path_covers no_pairings i ok (best_carry N Z ts ok.some_ways ok.few_ways) (best_start N Z ts ok.few_ways) (aimed Z ts ok.some_sets ok.few_sets) vague path h (e, o) grows)
   where
     N : ℕ

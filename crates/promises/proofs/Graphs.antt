@@ -1,5 +1,6 @@
 -- A graph, along a path (AnyPath), for document 01's tables: each node's table is worth no less than its predecessors' are along its run, so from node to
 -- node nothing is lost, whichever edges the path takes, nor where less is known of the last block. A straight run is the graph of one node.
+use Rattle.std.specs.Prelude.{None}
 use mathlib.Core.Path.{◌≡◌, refl, ap, ◌∙◌}
 use mathlib.Core.Bool.{true}
 use mathlib.Core.List.{List, [], ◌∷◌}
@@ -12,8 +13,7 @@ use Rattle.basics.specs.Sums.{sum_over}
 use Rattle.rules.specs.declared.State.{State}
 use Rattle.rules.specs.declared.Target.{Target}
 use Rattle.rules.specs.declared.Filled.{Filled}
-use Rattle.rules.specs.declared.Last.{Last}
-use Rattle.rules.specs.declared.Last.TheVariants.{Unknown as unknown}
+use Rattle.rules.specs.Contents.{Last}
 use Rattle.rules.specs.Units.{whole}
 use Rattle.rules.specs.Input.{Input, nodes, offset, run_of, edges_of, predecessors, joins_to}
 use Rattle.rules.specs.AnyTable.{Entries, behind, node_by as node_of, worked_by as worked_of, finished_by as finished_of}
@@ -84,9 +84,9 @@ module _ (q : Entries) (i : Input) (ok : Checked i) where
 
   -- every path from first node to last leads from the start to the finished table
   pub path_covers : (path : List ℕ) → is_path i path ≡ true → (f : Weight) → Rises N i.sets i.tracked f
-      → whole * value f N (targets unknown (accesses_of i path)) 0 0 (at_start i) ≤ N ^ length (accesses_of i path) * worth f (finished_by q i).table
+      → whole * value f N (targets None (accesses_of i path)) 0 0 (at_start i) ≤ N ^ length (accesses_of i path) * worth f (finished_by q i).table
   path_covers path h f rises =
-      rw (← value_along f N (targets unknown (accesses_of i path)))
+      rw (← value_along f N (targets None (accesses_of i path)))
       (path_covers_any q i ok (states_carry N i.sets i.tracked ok.some_ways ok.few_ways)
       (states_start N i.sets i.tracked (at_start i) (start_most i ok)) (aimed i.sets i.tracked ok.some_sets ok.few_sets) vague path h f rises)
     where
@@ -102,11 +102,11 @@ module _ (q : Entries) (i : Input) (ok : Checked i) where
   -- ---- one node
 
   -- so the finished table is what the accesses make of the start
-  pub straight : nodes i ≡ 1 → finished_by q i ≡ run N i.sets i.limit i.tracked unknown i.accesses (record { table = begin (at_start i); aside = 0 })
+  pub straight : nodes i ≡ 1 → finished_by q i ≡ run N i.sets i.limit i.tracked None i.accesses (record { table = begin (at_start i); aside = 0 })
   unfolding finished_of worked_of node_of
   straight e =
       ap (λ (n : ℕ). let d = worked_by q i n in record { table = table_at d (n - 1); aside = d.aside }) e
       ∙ ap (λ (l : Last). run N i.sets i.limit i.tracked l (run_of i 0) (enter_by (behind (joins_to (edges_of i.edges) 0) q) i.limit (at_start i) (worked_by q i 0) (predecessors (edges_of i.edges) 0)))
       (first_known i ok)
-      ∙ ap (run N i.sets i.limit i.tracked unknown (run_of i 0)) (first_start states q (behind (joins_to (edges_of i.edges) 0) q) i ok)
-      ∙ ap (λ (bs : List ℕ). run N i.sets i.limit i.tracked unknown bs (record { table = begin (at_start i); aside = 0 })) (whole_run i ok e)
+      ∙ ap (run N i.sets i.limit i.tracked None (run_of i 0)) (first_start states q (behind (joins_to (edges_of i.edges) 0) q) i ok)
+      ∙ ap (λ (bs : List ℕ). run N i.sets i.limit i.tracked None bs (record { table = begin (at_start i); aside = 0 })) (whole_run i ok e)

@@ -1,5 +1,6 @@
 -- Document 01's own pairings, handed in: told in numbers and read again they are what they were; each is accepted where it is handed in, since the tables there are
 -- document 01's, and joins as none does. So node after node the tables stay the same.
+use Rattle.std.specs.Prelude.{Err, Ok}
 use mathlib.Core.Path.{◌≡◌, refl, sym, ap, ap₂, ◌∙◌, subst}
 use mathlib.Core.Bool.{true, false, cond, ◌&&◌}
 use mathlib.Core.List.{List, [], ◌∷◌, ◌++◌, map, flat_map}
@@ -12,9 +13,7 @@ use lib.Seq.{take_at, drop-append-add, get_or-append-add}
 use borrow.Author.Tests.{ne_eqb, le-leb, eq-eqb}
 use Rattle.rules.specs.declared.State.{State}
 use Rattle.rules.specs.declared.Filled.{Filled}
-use Rattle.rules.specs.declared.Verdict.{Verdict}
-use Rattle.rules.specs.declared.Verdict.TheVariants.{Accepted, Refused}
-use Rattle.rules.specs.declared.Outcome.TheVariants.{Finished}
+use Rattle.rules.specs.Answers.{Verdict}
 use Rattle.rules.specs.Units.{units}
 use Rattle.rules.specs.Contents.{among}
 use Rattle.rules.specs.Input.{Input, nodes, run_of, Edge, edges_of, predecessors, joins_to}
@@ -263,8 +262,8 @@ own_answered i = go (verdict i) refl
     q = entry_of (own_counts i) (own_rows i)
 
     go : (v : Verdict) → verdict i ≡ v → paired_answered (paired_verdict i (own_counts i) (own_rows i)) i q ≡ answered (verdict i) i
-    go Accepted e =
+    go (Ok tt) e =
         let ok = checked i (sym e) in
         rw (paired_judged i (own_counts i) (own_rows i) true e (own_accepted i ok), e)
-        (ap (λ (w : Work). Finished (length w.table) (units w.aside)) (own_finished i ok))
-    go (Refused r) e = rw (paired_refused i (own_counts i) (own_rows i) r e, e) refl
+        (ap (λ (w : Work). Ok (record { states = length w.table; aside = units w.aside })) (own_finished i ok))
+    go (Err r) e = rw (paired_refused i (own_counts i) (own_rows i) r e, e) refl

@@ -11,7 +11,7 @@ use native.Mathlib.Omega.{arith}
 use lib.ListN.{length}
 use Rattle.machine.specs.Cache.{Cache, first, start, Built}
 use Rattle.machine.specs.Draws.{count_from, count}
-use Rattle.rules.specs.Answers.{outcome_says, best_says, amount_says, time_says}
+use Rattle.rules.specs.Answers.{outcome_says, number_says, amount_says}
 use Rattle.rules.specs.declared.Start.TheVariants.{Cold as cold}
 use Rattle.rules.specs.Input.{Input, nodes}
 use Rattle.rules.specs.Questions.{is_table, above}
@@ -139,12 +139,12 @@ tight_cycles i ok o one all L e k known =
 -- the smallest cycle budget for u of them.
 pub asked_cycles : (i : Input) → (outcome_says (outcome i)).number ≡ 0 → (L : ℕ) → L ≡ longest i → (k : ℕ) → k < length cores → (B u : ℕ)
     → (amount_says (above_cycles_answer (finished i).table k L B) ≡ record { number = 0; value = above_cycles (core_at k) L B (finished i).table })
-    × (time_says (cycle_budget_answer (finished i).table k L u) ≡ record { number = 0; value = smallest_cycles (core_at k) L u (finished i).table })
+    × (number_says (cycle_budget_answer (finished i).table k L u) ≡ record { number = 0; value = smallest_cycles (core_at k) L u (finished i).table })
 asked_cycles i ok L e k known B u =
     let c = accepted i ok in
     let T = (finished i).table in
     let asked = cycles_accepted T k L known (omega (arith, longest_most i c, c.few_accesses)) (finished_is_table i ok) (rw e (finished_within i c)) in
-    (ap amount_says (sym (above_cycles_answered T k L asked B _ refl)), ap time_says (sym (cycle_budget_answered T k L asked u _ refl)))
+    (ap amount_says (sym (above_cycles_answered T k L asked B _ refl)), ap number_says (sym (cycle_budget_answered T k L asked u _ refl)))
 
 -- ---- with pairings: ns and rs are what is handed in for the joins, and the call with them is accepted. The machine does not know of pairings
 
@@ -215,18 +215,18 @@ straight_paired i ns rs ok one =
 
 -- Sure misses. For every accepted graph, every path from first node to last and every number B:
 -- (units with more than B misses) × N^L ≤ 2^48 × (choice sequences with more than B misses).
-pub sure_misses : (i : Input) → (best_says (best_outcome i)).number ≡ 0 → (path : List ℕ) → is_path i path ≡ true → (B : ℕ)
+pub sure_misses : (i : Input) → (number_says (best_outcome i)).number ≡ 0 → (path : List ℕ) → is_path i path ≡ true → (B : ℕ)
     → misses_above B (best_table i) * i.ways ^ length (accesses_of i path) ≤ whole * count (over B) first i.sets i.ways (accesses_of i path)
 sure_misses i h path p B = omega (arith, misses_within i (best_accepted i h) path p B)
 
 -- Sure hits. The same of hits, which are the accesses of the path that are no misses:
 -- (units with more than B hits) × N^L ≤ 2^48 × (choice sequences with more than B hits).
-pub sure_hits : (i : Input) → (best_says (best_outcome i)).number ≡ 0 → (path : List ℕ) → is_path i path ≡ true → (B : ℕ)
+pub sure_hits : (i : Input) → (number_says (best_outcome i)).number ≡ 0 → (path : List ℕ) → is_path i path ≡ true → (B : ℕ)
     → hits_above B (best_table i) * i.ways ^ length (accesses_of i path)
     ≤ whole * count (over_hits (length (accesses_of i path)) B) first i.sets i.ways (accesses_of i path)
 sure_hits i h path p B = omega (arith, hits_within i (best_accepted i h) path p B)
 
 -- Whole. Units always total 2^48, and the finished table is a table by section 4, so that the questions accept it.
-pub whole_best : (i : Input) → (best_says (best_outcome i)).number ≡ 0
+pub whole_best : (i : Input) → (number_says (best_outcome i)).number ≡ 0
     → (best_total_lem listing (best_table i) ≡ whole) × (is_best_table (best_table i) ≡ true)
 whole_best i h = (best_whole i h, best_is_table i h)

@@ -1,5 +1,6 @@
 -- A run, accounted for from its first access to its last: what the table it starts from is worth along its accesses, against
 -- N ^ (its length) times what the table it ends in is worth. Each access is one factor N.
+use Rattle.std.specs.Prelude.{Some}
 use mathlib.Core.Path.{◌≡◌, ap, ◌∙◌}
 use mathlib.Core.Logic.{◌⊎◌, inl, inr}
 use mathlib.Core.List.{List, [], ◌∷◌}
@@ -9,10 +10,8 @@ use native.Mathlib.Omega.{arith}
 use lib.ListN.{length}
 use Rattle.rules.specs.declared.Target.{Target}
 use Rattle.rules.specs.declared.Filled.{Filled}
-use Rattle.rules.specs.declared.Last.{Last}
-use Rattle.rules.specs.declared.Last.TheVariants.{Block as block}
 use Rattle.rules.specs.Units.{whole, more}
-use Rattle.rules.specs.Contents.{target_of}
+use Rattle.rules.specs.Contents.{target_of, Last}
 use Rattle.rules.specs.AnyTable.{advance as advance_of, run as run_of_any}
 use Rattle.rules.specs.Table.{total, Work}
 use Rattle.rules.specs.Step.{access, access_aside}
@@ -99,7 +98,7 @@ module _ (N Z K : ℕ) (ts : List ℕ) (some : 0 < N) (few : N ≤ 16) (sets : 0
   unfolding run_of_any
   run_stopped M l [] w t e = e
   run_stopped M l (b ∷ bs) w t e =
-      run_stopped (suc M) (block b) bs (advance N K (target_of Z ts l b) w) (next M l b w t)
+      run_stopped (suc M) (Some b) bs (advance N K (target_of Z ts l b) w) (next M l b w t)
       (advance_stopped N Z ts K M (target_of Z ts l b) some few (aim l b) w t e)
 
   pub run_high : (W : Weight) → ((C m : ℕ) (F : Filled) → W C m F ≤ 1) → (M : ℕ) (l : Last) (bs : List ℕ) (w : Work) → Table N Z ts K M w.table
@@ -109,27 +108,27 @@ module _ (N Z K : ℕ) (ts : List ℕ) (some : 0 < N) (few : N ≤ 16) (sets : 0
   unfolding run_of_any value
   run_high W most M l [] w t = inr (rw (pow-zero N) (omega arith))
   run_high W most M l (b ∷ bs) w t =
-      go (advance_high N Z ts K M (target_of Z ts l b) some few (aim l b) w t (value W N (to (block b) bs)) (N ^ length bs) top)
-      (run_high W most (suc M) (block b) bs v (next M l b w t))
+      go (advance_high N Z ts K M (target_of Z ts l b) some few (aim l b) w t (value W N (to (Some b) bs)) (N ^ length bs) top)
+      (run_high W most (suc M) (Some b) bs v (next M l b w t))
     where
       v : Work
       v = advance N K (target_of Z ts l b) w
 
-      top : (C m : ℕ) (F : Filled) → Room N Z ts C F → value W N (to (block b) bs) C m F ≤ N ^ length bs
-      top C m F h = rw (length_targets Z ts (block b) bs) at (value_most N Z ts few W most (to (block b) bs) (all_aimed Z ts sets few_sets (block b) bs) C m F h)
+      top : (C m : ℕ) (F : Filled) → Room N Z ts C F → value W N (to (Some b) bs) C m F ≤ N ^ length bs
+      top C m F h = rw (length_targets Z ts (Some b) bs) at (value_most N Z ts few W most (to (Some b) bs) (all_aimed Z ts sets few_sets (Some b) bs) C m F h)
 
       z : Work
-      z = ran (block b) bs v
+      z = ran (Some b) bs v
 
       go : (v.aside ≡ whole)
-          ⊎ (N * worth (value W N (to (block b) bs)) v.table + N * (w.aside * N ^ length bs)
+          ⊎ (N * worth (value W N (to (Some b) bs)) v.table + N * (w.aside * N ^ length bs)
           ≤ worth (value W N (to l (b ∷ bs))) w.table + N * (v.aside * N ^ length bs))
           → (z.aside ≡ whole)
-          ⊎ (N ^ length bs * worth W z.table + v.aside * N ^ length bs ≤ worth (value W N (to (block b) bs)) v.table + z.aside * N ^ length bs)
+          ⊎ (N ^ length bs * worth W z.table + v.aside * N ^ length bs ≤ worth (value W N (to (Some b) bs)) v.table + z.aside * N ^ length bs)
           → (z.aside ≡ whole)
           ⊎ (N ^ suc (length bs) * worth W z.table + w.aside * N ^ suc (length bs)
           ≤ worth (value W N (to l (b ∷ bs))) w.table + z.aside * N ^ suc (length bs))
-      go (inl e) h = inl (run_stopped (suc M) (block b) bs v (next M l b w t) e)
+      go (inl e) h = inl (run_stopped (suc M) (Some b) bs v (next M l b w t) e)
       go (inr g) (inl h) = inl h
       go (inr g) (inr h) = inr (rw (pow-succ' N (length bs)) (omega (arith, g, mul-le-mul_left N h)))
 
@@ -139,6 +138,6 @@ module _ (N Z K : ℕ) (ts : List ℕ) (some : 0 < N) (few : N ≤ 16) (sets : 0
   run_even W M l [] w t e = (e, rw (pow-zero N) (omega arith))
   run_even W M l (b ∷ bs) w t e =
       let v = advance N K (target_of Z ts l b) w in
-      let (p, rest) = run_even W (suc M) (block b) bs v (next M l b w t) e in
+      let (p, rest) = run_even W (suc M) (Some b) bs v (next M l b w t) e in
       let (q, here) = advance_even N Z ts K M (target_of Z ts l b) some few (aim l b) w t p in
-      (q, rw (pow-succ' N (length bs)) (omega (arith, here (value W N (to (block b) bs)), ap (N *◌) rest)))
+      (q, rw (pow-succ' N (length bs)) (omega (arith, here (value W N (to (Some b) bs)), ap (N *◌) rest)))

@@ -1,4 +1,5 @@
 -- The machine, from the start or from a used cache, along the accesses of an accepted input, and the finished table of a straight run.
+use Rattle.std.specs.Prelude.{None}
 use mathlib.Core.Path.{◌≡◌, refl, sym, ap, ap₂, ◌∙◌}
 use mathlib.Core.Bool.{Bool, true, false, cond, true≢false, and-true}
 use mathlib.Core.Logic.{◌⊎◌, inl, inr}
@@ -15,7 +16,6 @@ use Rattle.machine.specs.Draws.{count_from}
 use Rattle.machine.proofs.Draws.{total}
 use Rattle.machine.proofs.Ways.{may_most, built_start}
 use Rattle.rules.specs.Answers.{outcome_says}
-use Rattle.rules.specs.declared.Last.TheVariants.{Unknown as unknown}
 use Rattle.rules.specs.Units.{whole}
 use Rattle.rules.specs.Contents.{places}
 use Rattle.rules.specs.Input.{Input, nodes}
@@ -56,7 +56,7 @@ module _ (i : Input) (ok : Checked i) where
   v = revision_of i
 
   abbrev ahead : Weight → List ℕ → ℕ
-  ahead W p = value W N (targets_of i.sets i.tracked unknown p) 0 0 (at_start i)
+  ahead W p = value W N (targets_of i.sets i.tracked None p) 0 0 (at_start i)
 
   few : length i.tracked ≤ places
   few = rw sixteen_places ok.few_tracked
@@ -69,7 +69,7 @@ module _ (i : Input) (ok : Checked i) where
         → total (seen v i.tracked W) v N c p ≤ ahead W p
     machine_from fewer W rises p =
         machine_below i.tracked (once_at i.tracked ok.distinct) few W v i.sets N ok.some_sets ok.few_sets ok.few_ways rises p c 0 0
-        (at_start i) unknown built (sub_zero _) fewer (λ b e. absurd (true≢false (sym e))) (le_of_eq fresh)
+        (at_start i) None built (sub_zero _) fewer (λ b e. absurd (true≢false (sym e))) (le_of_eq fresh)
 
     -- where the rules say that all may be filled, that is any
     pub machine_used : starts_empty i ≡ false → (W : Weight) → Rises N i.sets i.tracked W → (p : List ℕ)
@@ -121,8 +121,8 @@ module _ (i : Input) (ok : Checked i) where
   pub machine_even : filled_of v (start i.sets N) ≡ at_start i → (p : List ℕ) → all_tracked i.tracked p ≡ true → (W : Weight)
       → total (seen v i.tracked W) v N (start i.sets N) p ≡ ahead W p
   machine_even filled p all W =
-      machine_equal i.tracked (once_at i.tracked ok.distinct) few i.sets N ok.some_sets ok.few_sets ok.few_ways W v p (start i.sets N) unknown (built_start i.sets N) all
-      ∙ ap₂ (λ (C : ℕ) (F : Filled). value W N (targets_of i.sets i.tracked unknown p) C 0 F)
+      machine_equal i.tracked (once_at i.tracked ok.distinct) few i.sets N ok.some_sets ok.few_sets ok.few_ways W v p (start i.sets N) None (built_start i.sets N) all
+      ∙ ap₂ (λ (C : ℕ) (F : Filled). value W N (targets_of i.sets i.tracked None p) C 0 F)
       (contents_start i.tracked i.sets N) filled
 
   -- ---- so along every path, with any pairings
@@ -156,14 +156,14 @@ module _ (i : Input) (ok : Checked i) where
       pub straight_high : (W : Weight) → ((C m : ℕ) (F : Filled) → W C m F ≤ 1)
           → ((finished_by q i).aside ≡ whole)
           ⊎ (worth W (finished_by q i).table * N ^ length i.accesses ≤ whole * ahead W i.accesses + (finished_by q i).aside * N ^ length i.accesses)
-      straight_high W most = rw (straight q i ok one) (go (run_high N i.sets i.limit i.tracked ok.some_ways ok.few_ways ok.some_sets ok.few_sets ok.some_states W most 0 unknown i.accesses begun
+      straight_high W most = rw (straight q i ok one) (go (run_high N i.sets i.limit i.tracked ok.some_ways ok.few_ways ok.some_sets ok.few_sets ok.some_states W most 0 None i.accesses begun
           (table_begin N i.sets i.tracked i.limit ok.some_ways ok.few_ways ok.some_states (at_start i) (start_most i ok))))
         where
           begun : Work
           begun = record { table = begin (at_start i); aside = 0 }
 
           v : Work
-          v = run N i.sets i.limit i.tracked unknown i.accesses begun
+          v = run N i.sets i.limit i.tracked None i.accesses begun
 
           go : (v.aside ≡ whole)
               ⊎ (N ^ length i.accesses * worth W v.table + 0 * N ^ length i.accesses
@@ -177,7 +177,7 @@ module _ (i : Input) (ok : Checked i) where
           → worth W (finished_by q i).table * N ^ length i.accesses ≡ whole * ahead W i.accesses
       straight_even W e = rw (straight q i ok one) (omega (
         arith,
-        (run_even N i.sets i.limit i.tracked ok.some_ways ok.few_ways ok.some_sets ok.few_sets ok.some_states W 0 unknown i.accesses (record { table = begin (at_start i); aside = 0 })
+        (run_even N i.sets i.limit i.tracked ok.some_ways ok.few_ways ok.some_sets ok.few_sets ok.some_states W 0 None i.accesses (record { table = begin (at_start i); aside = 0 })
             (table_begin N i.sets i.tracked i.limit ok.some_ways ok.few_ways ok.some_states (at_start i) (start_most i ok)) (rw (straight q i ok one) at e)).1,
       ))
 

@@ -1,6 +1,7 @@
 -- The value of contents C with m misses and F filled along the accesses ahead: what the rules say that all draws to come add up to, for a
 -- weight W of what they end in. It rises as blocks are taken away, misses added and numbers raised, and a remainder that goes to the accessed block alone, and
 -- a fold, are safe for that reason. Nor does it fall where less is known of the block accessed directly before.
+use Rattle.std.specs.Prelude.{None, Some}
 use mathlib.Core.Path.{◌≡◌, refl, sym, ap, ◌∙◌, subst}
 use mathlib.Core.Logic.{inl, inr}
 use mathlib.Core.Bool.{Bool, true, false, cond, true≢false}
@@ -12,12 +13,8 @@ use lib.Dec.{ltb}
 use lib.ListN.{length}
 use borrow.Author.Tests.{ltb-true, ltb-false}
 use Rattle.basics.proofs.Sums.{sum_on, sum_le, sum_add, sum_each}
-use Rattle.rules.specs.declared.Place.{Place}
-use Rattle.rules.specs.declared.Place.TheVariants.{At as at, Untracked as untracked}
-use Rattle.rules.specs.declared.Last.{Last}
-use Rattle.rules.specs.declared.Last.TheVariants.{Block as block, Unknown as unknown}
 use Rattle.rules.specs.declared.Target.{Target}
-use Rattle.rules.specs.Contents.{places, find, is_last, last_after, bit, has, hits, with, without, held, size, of_set, target_of}
+use Rattle.rules.specs.Contents.{places, find, is_last, last_after, bit, has, hits, with, without, held, size, of_set, target_of, Last, Place}
 use Rattle.rules.specs.declared.Filled.{Filled}
 use Rattle.rules.specs.Filling.{filled_at, fill_one}
 use Rattle.rules.specs.Step.{at_risk}
@@ -33,22 +30,22 @@ use Rattle.rules.proofs.Graph.{Vaguer}
 -- what the accesses to bs are after, where l was accessed directly before them
 abbrev pub targets_of : ℕ → List ℕ → Last → List ℕ → List Target
 targets_of Z ts l [] = []
-targets_of Z ts l (b ∷ bs) = target_of Z ts l b ∷ targets_of Z ts (block b) bs
+targets_of Z ts l (b ∷ bs) = target_of Z ts l b ∷ targets_of Z ts (Some b) bs
 
 module _ (Z : ℕ) (ts : List ℕ) where
   pub all_aimed : 0 < Z → Z ≤ 16 → (l : Last) (bs : List ℕ) → Every (Aimed Z ts) (targets_of Z ts l bs)
   all_aimed sets few_sets l [] = tt
-  all_aimed sets few_sets l (b ∷ bs) = (aimed Z ts sets few_sets l b, all_aimed sets few_sets (block b) bs)
+  all_aimed sets few_sets l (b ∷ bs) = (aimed Z ts sets few_sets l b, all_aimed sets few_sets (Some b) bs)
 
   pub length_targets : (l : Last) (bs : List ℕ) → length (targets_of Z ts l bs) ≡ length bs
   length_targets l [] = refl
-  length_targets l (b ∷ bs) = ap suc (length_targets (block b) bs)
+  length_targets l (b ∷ bs) = ap suc (length_targets (Some b) bs)
 
   -- those of p and then those of q
   pub targets_append : (l : Last) (p q : List ℕ) → targets_of Z ts l (p ++ q) ≡ targets_of Z ts l p ++ targets_of Z ts (last_after l p) q
   unfolding last_after
   targets_append l [] q = refl
-  targets_append l (b ∷ p) q = ap (target_of Z ts l b ∷◌) (targets_append (block b) p q)
+  targets_append l (b ∷ p) q = ap (target_of Z ts l b ∷◌) (targets_append (Some b) p q)
 
 -- the weight W summed over the N ^ (length p) draws of the accesses p, from contents C with m misses and F filled
 unfoldable pub value : Weight → ℕ → List Target → Weight
@@ -142,8 +139,8 @@ module _ (N C E y : ℕ) (g : ℕ → ℕ) (small : size E ≤ N) where
 -- ---- the value rises
 
 has_sub : (C D : ℕ) (r : Bool) (x : Place) → Sub C D → has C r x ≡ true → has D r x ≡ true
-has_sub C D r (at i) s h = s i h
-has_sub C D r untracked s h = h
+has_sub C D r (Some i) s h = s i h
+has_sub C D r None s h = h
 
 pub sub_zero : (C : ℕ) → Sub 0 C
 sub_zero C i h = absurd (true≢false (sym h ∙ bit_zero i))
@@ -271,27 +268,27 @@ module _ (N Z : ℕ) (ts : List ℕ) (few : N ≤ 16) where
   -- it does not fall where the block accessed directly before is not known: the access is then a miss, or what it was
   module _ (W : Weight) (rises : Rises N Z ts W) (sets : 0 < Z) (few_sets : Z ≤ 16) where
     value_unknown : (l : Last) (bs : List ℕ) (C m : ℕ) (F : Filled) → Room N Z ts C F
-        → value W N (targets_of Z ts l bs) C m F ≤ value W N (targets_of Z ts unknown bs) C m F
+        → value W N (targets_of Z ts l bs) C m F ≤ value W N (targets_of Z ts None bs) C m F
     unfolding value target_of with at_risk
     value_unknown l [] C m F room = le_refl (W C m F)
     value_unknown l (b ∷ bs) C m F room = go (is_last l b) (find ts b) refl
       where
         v : Weight
-        v = value W N (targets_of Z ts (block b) bs)
+        v = value W N (targets_of Z ts (Some b) bs)
 
         to : Bool → Place → Target
         to r y = record { place = y; again = r; set = b % Z; mates = of_set Z ts (b % Z) }
 
         new : Target
-        new = to false untracked
+        new = to false None
 
-        aim : find ts b ≡ untracked → Aimed Z ts new
-        aim e = subst (λ (y : Place). Aimed Z ts (to false y)) e (aimed Z ts sets few_sets unknown b)
+        aim : find ts b ≡ None → Aimed Z ts new
+        aim e = subst (λ (y : Place). Aimed Z ts (to false y)) e (aimed Z ts sets few_sets None b)
 
         go : (r : Bool) (y : Place) → find ts b ≡ y → ahead N (to r y) v C m F ≤ ahead N (to false y) v C m F
-        go r (at i) e = le_refl (ahead N (to r (at i)) v C m F)
-        go false untracked e = le_refl (ahead N new v C m F)
-        go true untracked e =
+        go r (Some i) e = le_refl (ahead N (to r (Some i)) v C m F)
+        go false None e = le_refl (ahead N new v C m F)
+        go true None e =
             over_ways_least N C (at_risk N new F C) (v C m F) (λ D. v D (suc m) up) (room_risk N Z ts few new (aim e) C F room)
             (λ i k h. v_rises (without C i) C (suc m) m up F (sub_without C i (risk_sub N new F C i h)) (le_step (le_refl m)) fewer room)
             (λ h. v_rises C C (suc m) m up F (λ i t. t) (le_step (le_refl m)) fewer room)
@@ -303,7 +300,7 @@ module _ (N Z : ℕ) (ts : List ℕ) (few : N ≤ 16) where
             fewer = more_filled N few (b % Z) (aim e).near F
 
             v_rises : Rises N Z ts v
-            v_rises = value_rises W rises (targets_of Z ts (block b) bs) (all_aimed Z ts sets few_sets (block b) bs)
+            v_rises = value_rises W rises (targets_of Z ts (Some b) bs) (all_aimed Z ts sets few_sets (Some b) bs)
 
     pub value_vaguer : (k l : Last) → Vaguer k l → (bs : List ℕ) (C m : ℕ) (F : Filled) → Room N Z ts C F
         → value W N (targets_of Z ts l bs) C m F ≤ value W N (targets_of Z ts k bs) C m F

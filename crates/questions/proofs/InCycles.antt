@@ -1,12 +1,12 @@
 -- A question in cycles that is not refused: the core is one in service, the longest path has at most 4,096 accesses, and the states are a table with no
 -- more misses than that. So no number wraps, and what `cycles` works out from a miss budget is what is asked.
+use Rattle.std.specs.Prelude.{Ok}
 use mathlib.Core.Path.{◌≡◌, sym, ◌∙◌}
 use mathlib.Core.List.{List}
 use Prim.Native.Nat.{ℕ, ◌*◌, ◌-◌, ◌/◌, ◌≤◌, ◌<◌}
 use native.Mathlib.Nat.{le_trans}
 use Rattle.rules.specs.declared.Core.{Core}
 use Rattle.rules.specs.declared.State.{State}
-use Rattle.rules.specs.declared.Verdict.TheVariants.{Accepted}
 use Rattle.rules.specs.Answers.{first}
 use Rattle.rules.specs.Units.{whole}
 use Rattle.rules.specs.Table.{total}
@@ -15,7 +15,7 @@ use Rattle.rules.specs.Cycles.{core_at, cycles_of, above_cycles, smallest_cycles
 use Rattle.rules.proofs.Questions.{table_total, smallest_most}
 use Rattle.rules.proofs.Cycles.{Answerable, answerable, miss_above_hit_lem, small_cycles, hits_most, above_cycles_all, above_cycles_is, smallest_cycles_none, smallest_cycles_is}
 
-module _ (T : List State) (k L : ℕ) (accepted : first (cycle_reasons k L T) ≡ Accepted) where
+module _ (T : List State) (k L : ℕ) (accepted : first (cycle_reasons k L T) ≡ Ok tt) where
   ok : Answerable T k L
   ok = answerable T k L accepted
 

@@ -1,5 +1,6 @@
 -- What is asked of a table
 pub mod Amounts
-pub mod Counting
+-- What a spread answers
+pub mod Answered
 -- What is asked in cycles
 pub mod InCycles

@@ -1,7 +1,6 @@
 // Questions in cycles: document 02, request 9/13. On every core a miss takes longer than a hit, so that the cycles of the longest path rise with
 // its misses, and a cycle budget stands for a miss budget.
-ghost use Rattle.std.specs.Prelude.{◌≡◌, ◌-◌, ◌/◌, ◌≤◌, ◌<◌};
-ghost use Rattle.rules.specs.declared.Verdict.TheVariants.{Accepted};
+ghost use Rattle.std.specs.Prelude.{◌≡◌, ◌-◌, ◌/◌, ◌≤◌, ◌<◌, Ok};
 ghost use Rattle.rules.specs.Answers.{first};
 ghost use Rattle.rules.specs.Cycles.{core_at, cycles_of, above_cycles, smallest_cycles, cycle_reasons, above_cycles_answer, cycle_budget_answer};
 ghost use Rattle.words.specs.Tables.{table_of};
@@ -9,7 +8,7 @@ ghost use Rattle.words.specs.Tables.{table_of};
 use crate::sums::{smallest, units_above};
 use core_list::core_at;
 use cycle_check::judged;
-use rules::{Amount, Core, Time, Units, Verdict};
+use rules::{Core, Refusal, Units};
 
 // The cycles of a path of so many accesses and misses.
 pub(crate) fn cycles_of(core: Core, accesses: u64, misses: u64) -> u64
@@ -29,7 +28,7 @@ pub(crate) fn misses_paid(core: Core, least: u64, budget: u64) -> u64
 
 // The units above a cycle budget: those above the misses that it pays for, or all of them where it does not even pay for hits.
 pub(crate) fn units_above_cycles(words: &[u64], core: usize, longest: u64, budget: u64) -> u64
-    requires { first (cycle_reasons core longest (table_of words.now)) ≡ Accepted }
+    requires { first (cycle_reasons core longest (table_of words.now)) ≡ Ok tt }
     ensures { result ≡ above_cycles (core_at core) longest budget (table_of words.now) }
 {
     let c = core_at(core);
@@ -43,7 +42,7 @@ pub(crate) fn units_above_cycles(words: &[u64], core: usize, longest: u64, budge
 
 // The smallest cycle budget whose units above are at most `units`: the cycles of the smallest miss budget, or 0 where every unit may be above.
 pub(crate) fn fewest_cycles(words: &[u64], core: usize, longest: u64, units: u64) -> u64
-    requires { first (cycle_reasons core longest (table_of words.now)) ≡ Accepted }
+    requires { first (cycle_reasons core longest (table_of words.now)) ≡ Ok tt }
     ensures { result ≡ smallest_cycles (core_at core) longest units (table_of words.now) }
 {
     let whole = Units::WHOLE;
@@ -53,20 +52,26 @@ pub(crate) fn fewest_cycles(words: &[u64], core: usize, longest: u64, units: u64
     cycles_of(core_at(core), longest, smallest(words, units))
 }
 
-pub(crate) fn above_cycles_of(words: &[u64], core: usize, longest: u64, budget: u64) -> Amount
+pub(crate) fn above_cycles_of(
+    words: &[u64],
+    core: usize,
+    longest: u64,
+    budget: u64,
+) -> Result<Units, Refusal>
     ensures { result ≡ above_cycles_answer (table_of words.now) core longest budget }
 {
-    match judged(words, core, longest) {
-        Verdict::Accepted => Amount::Units(Units(units_above_cycles(words, core, longest, budget))),
-        Verdict::Refused(reason) => Amount::Refused(reason),
-    }
+    judged(words, core, longest)?;
+    Ok(Units(units_above_cycles(words, core, longest, budget)))
 }
 
-pub(crate) fn cycle_budget_of(words: &[u64], core: usize, longest: u64, units: u64) -> Time
+pub(crate) fn cycle_budget_of(
+    words: &[u64],
+    core: usize,
+    longest: u64,
+    units: u64,
+) -> Result<u64, Refusal>
     ensures { result ≡ cycle_budget_answer (table_of words.now) core longest units }
 {
-    match judged(words, core, longest) {
-        Verdict::Accepted => Time::Cycles(fewest_cycles(words, core, longest, units)),
-        Verdict::Refused(reason) => Time::Refused(reason),
-    }
+    judged(words, core, longest)?;
+    Ok(fewest_cycles(words, core, longest, units))
 }

@@ -7,19 +7,19 @@ ghost use Rattle.rules.specs.Questions.{above_answer, budget_answer, spread_answ
 ghost use Rattle.rules.specs.Cycles.{above_cycles_answer, cycle_budget_answer};
 ghost use Rattle.words.specs.Tables.{table_of};
 
-use crate::answers::{above_of, budget_of, spread_of};
+use crate::answers::{above_of, budget_of};
 use crate::cycles::{above_cycles_of, cycle_budget_of};
-use rules::{Amount, Count, Time};
+use rules::{Misses, Refusal, Units};
+use table_check::Table;
 use words::span;
 
 mod answers;
-mod counts;
 mod cycles;
 mod one_state;
 mod sums;
 
 // The units above a budget: misses strictly greater.
-pub fn above_in(words: &[u64], states: usize, budget: u64) -> Amount
+pub fn above_in(words: &[u64], states: usize, budget: u64) -> Result<Units, Refusal>
     ensures { result ≡ above_answer (take states (table_of words.now)) budget }
 {
     let end = span(words.len(), states);
@@ -27,7 +27,7 @@ pub fn above_in(words: &[u64], states: usize, budget: u64) -> Amount
 }
 
 // The smallest budget whose units above are at most `units`.
-pub fn smallest_budget_in(words: &[u64], states: usize, units: u64) -> Count
+pub fn smallest_budget_in(words: &[u64], states: usize, units: u64) -> Result<u64, Refusal>
     ensures { result ≡ budget_answer (take states (table_of words.now)) units }
 {
     let end = span(words.len(), states);
@@ -35,11 +35,10 @@ pub fn smallest_budget_in(words: &[u64], states: usize, units: u64) -> Count
 }
 
 // The units at each miss count from 0 to the largest present, which is the answer; `room` has zeros beyond it.
-pub fn spread_in(words: &[u64], states: usize, room: &mut [u64]) -> Count
+pub fn spread_in(words: &[u64], states: usize, room: &mut [u64]) -> Result<u64, Refusal>
     ensures { record { answer = result; room = room.new } ≡ spread_answer (take states (table_of words.now)) room.old }
 {
-    let end = span(words.len(), states);
-    spread_of(&words[..end], room)
+    any_table::spread_in::<Table, Misses>(words, states, room)
 }
 
 // The units above a cycle budget, on the core of that number, where the longest path has `longest` accesses.
@@ -49,7 +48,7 @@ pub fn above_cycles_in(
     core: usize,
     longest: u64,
     budget: u64,
-) -> Amount
+) -> Result<Units, Refusal>
     ensures { result ≡ above_cycles_answer (take states (table_of words.now)) core longest budget }
 {
     let end = span(words.len(), states);
@@ -63,7 +62,7 @@ pub fn smallest_cycles_in(
     core: usize,
     longest: u64,
     units: u64,
-) -> Time
+) -> Result<u64, Refusal>
     ensures { result ≡ cycle_budget_answer (take states (table_of words.now)) core longest units }
 {
     let end = span(words.len(), states);

@@ -14,12 +14,9 @@ pub(crate) fn units_above(words: &[u64], budget: u64) -> u64
     requires { total (table_of words.now) ≤ whole }
     ensures { result ≡ above budget (table_of words.now) }
 {
-    let n = words.len() / 5;
     let mut sum: u64 = 0;
-    let mut i: usize = 0;
-    while i < n {
+    for i in 0..words.len() / 5 {
         sum += part_above(state_at(words, i), budget);
-        i += 1;
     }
     sum
 }
@@ -31,6 +28,7 @@ pub(crate) fn smallest(words: &[u64], units: u64) -> u64
 {
     let mut low: u64 = 0;
     let mut high = largest(words);
+    // By halves, over budgets: there is no slice of them to search.
     while low < high {
         let middle = low + (high - low) / 2;
         if units_above(words, middle) <= units {

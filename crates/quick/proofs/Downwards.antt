@@ -7,7 +7,7 @@ use mathlib.Core.List.{List}
 use Prim.Native.Nat.{ℕ, suc, ◌+◌, ◌-◌, ◌≤◌, ◌<◌}
 use native.Mathlib.Omega.{arith}
 use lib.ListN.{length, get_or, take, drop, take-append-drop}
-use lib.Seq.{drop-cons, drop-drop, drop-length}
+use lib.Seq.{drop-cons, drop-drop}
 use borrow.Author.Tests.{le-leb, lt-leb}
 use Rattle.basics.specs.Sums.{sum_over}
 use Rattle.basics.proofs.Sums.{sum_append}
@@ -35,9 +35,6 @@ module _ (row : List ℕ) (u : ℕ) where
   abbrev pub Left : ℕ → ℕ → Type 0
   Left n left = left + sum_from n row ≡ u
 
-  pub none_taken : Left (length row) u
-  none_taken = omega (arith, ap (sum_over (λ n. n)) (drop-length row))
-
   module _ (end left : ℕ) (h : Left end left) where
     -- all above the budget are taken
     pub none_passed : (B : ℕ) → end ≡ suc B → true ≡ is_within row B u
@@ -50,9 +47,6 @@ module _ (row : List ℕ) (u : ℕ) where
       with_next_lem p =
           let e : suc (end - 1) ≡ end = omega arith in
           omega (arith, from_next (end - 1) row (omega arith), ap (λ (n : ℕ). sum_from n row) e)
-
-      pub one_taken : 0 < end → get_or row (end - 1) 0 ≤ left → Left (end - 1) (left - get_or row (end - 1) 0)
-      one_taken p f = omega (arith, with_next_lem p)
 
       pub passed : (B : ℕ) → suc B < end → left < get_or row (end - 1) 0 → false ≡ is_within row B u
       unfolding is_within sum_above

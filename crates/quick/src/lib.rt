@@ -14,14 +14,12 @@ pub fn within(spread: &[u64], budget: u64, allowance: u64) -> bool
     }
     let first = budget as usize + 1;
     let mut left = allowance;
-    let mut end = spread.len();
-    while first < end {
-        let units = spread[end - 1];
+    for at in (first..spread.len()).rev() {
+        let units = spread[at];
         if left < units {
             return false;
         }
         left -= units;
-        end -= 1;
     }
     true
 }

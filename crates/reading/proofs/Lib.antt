@@ -4,5 +4,5 @@ pub mod Appended
 pub mod Steps
 -- The words of a text, read byte by byte
 pub mod Scanning
--- What a call leaves
+-- What a caller knows
 pub mod Calls

@@ -12,6 +12,8 @@ use borrow.Author.Tests.{le-leb, lt-leb, leb-true, ltb-true, ltb-false}
 use lib.Dec.{leb, ltb}
 use lib.ListN.{length, get_or, take, drop, set, length-append, length-set, length-map, take-append-drop}
 use lib.Seq.{append_snoc, take-suc-set, drop-set-lt}
+use Rattle.std.specs.Prelude.{Option, Some, None, is_some, option_map}
+use Rattle.std.proofs.lemmas.Option.{none-some, same_Some}
 use Rattle.basics.proofs.Bools.{and_left, three, not_both, either}
 use Rattle.basics.proofs.Lists.{list_next, list_end}
 use Rattle.reading.specs.declared.Progress.{Progress}
@@ -19,7 +21,7 @@ use Rattle.reading.specs.Reading.{is_gap, is_digit, all_digits, value_from, is_n
 use Rattle.reading.specs.Found.{Found}
 use Rattle.reading.specs.Standing.{Standing, standing, going, lost, digit_added, number_ended, byte_taken, text_taken}
 use Rattle.reading.proofs.Appended.{digits_append, value_append}
-use Rattle.reading.proofs.Steps.{no_number, no_place, stored, stays_lost, by_gap, by_other}
+use Rattle.reading.proofs.Steps.{lost_ended, lost_taken, no_number, no_place, stored, by_gap, by_other}
 
 -- ---- a word under way, and a byte more of it
 
@@ -34,7 +36,7 @@ number_begins b w = rw (le-leb 1 (suc (length w)) (omega arith))
 
 -- n numbers are done, and w is under way
 abbrev under : ℕ → List ℕ → Progress
-under n w = going n (length w) (value_from 0 w)
+under n w = record { count = n; digits = length w; value = value_from 0 w }
 
 module _ (b : ℕ) where
   length_more : (w : List ℕ) → length (w ++ (b ∷ [])) ≡ length w + 1
@@ -62,7 +64,7 @@ module _ (b : ℕ) where
       tests_byte : begins (w ++ (b ∷ [])) ≡ (ltb (length w) 10 && is_digit b && leb (value_from 0 w * 10 + (b - 48)) 4294967295)
       tests_byte = begins_more ∙ rw (three (leb (length w) 10) (all_digits w) (leb (value_from 0 w) 4294967295) h).1
 
-      byte_right : (n : ℕ) → begins (w ++ (b ∷ [])) ≡ true → digit_added b (under n w) ≡ under n (w ++ (b ∷ []))
+      byte_right : (n : ℕ) → begins (w ++ (b ∷ [])) ≡ true → digit_added b (under n w) ≡ Some (under n (w ++ (b ∷ [])))
       unfolding digit_added
       byte_right n l = rw (sym tests_byte ∙ l, length_more w, value_more 0 w)
 
@@ -99,17 +101,17 @@ under_begins (b ∷ text) w h =
 
 -- s is where reading stands when the words ws are read behind the n numbers at the front of the room
 record Reads (ws : List (List ℕ)) (n : ℕ) (room : List ℕ) (s : Standing) : Type 0 where
-  good : s.progress.good ≡ (all_numbers ws && leb (n + length ws) 16384)
-  count : s.progress.good ≡ true → s.progress.count ≡ n + length ws
-  numbers : s.progress.good ≡ true → s.room ≡ take n room ++ (map (value_from 0) ws ++ drop (n + length ws) room)
+  good : is_some s.progress ≡ (all_numbers ws && leb (n + length ws) 16384)
+  count : (p : Progress) → s.progress ≡ Some p → p.count ≡ n + length ws
+  numbers : (p : Progress) → s.progress ≡ Some p → s.room ≡ take n room ++ (map (value_from 0) ws ++ drop (n + length ws) room)
 
 -- the words are no numbers, or too many
 reads_lost : (ws : List (List ℕ)) (n : ℕ) (room : List ℕ) → (all_numbers ws ≡ true → n + length ws ≤ 16384 → ⊥) → Reads ws n room (standing lost room)
 reads_lost ws n room h =
     record {
       good = sym (not_both (all_numbers ws) (leb (n + length ws) 16384) (λ a l. h a (leb-true (n + length ws) 16384 l)));
-      count = λ e. absurd (true≢false (sym e));
-      numbers = λ e. absurd (true≢false (sym e));
+      count = λ p e. absurd (none-some p e);
+      numbers = λ p e. absurd (none-some p e);
     }
 
 -- the number w is stored, and the words behind it are read
@@ -120,21 +122,21 @@ reads_more w ws n room s h l r =
     let front : take (n + 1) (set room n (value_from 0 w)) ≡ take n room ++ (value_from 0 w ∷ []) = ap (λ (k : ℕ). take k (set room n (value_from 0 w))) (add-one n) ∙ take-suc-set room n (value_from 0 w) l in
     record {
       good = r.good ∙ rw (h, same);
-      count = λ e. r.count e ∙ sym same;
-      numbers = λ e. r.numbers e ∙ rw (front, same, drop-set-lt (n + 1 + length ws) room n (value_from 0 w) (omega arith))
+      count = λ p e. r.count p e ∙ sym same;
+      numbers = λ p e. r.numbers p e ∙ rw (front, same, drop-set-lt (n + 1 + length ws) room n (value_from 0 w) (omega arith))
           (append_snoc (take n room) (value_from 0 w) (map (value_from 0) ws ++ drop (n + 1 + length ws) room));
     }
 
 -- k reads the words ws where w is under way, whatever numbers are done
 abbrev ReadsFrom : List ℕ → (Standing → Standing) → List (List ℕ) → Type 0
-ReadsFrom w k ws = (n : ℕ) (room : List ℕ) → n ≤ 16384 → 16384 ≤ length room → Reads ws n room (k (standing (under n w) room))
+ReadsFrom w k ws = (n : ℕ) (room : List ℕ) → n ≤ 16384 → 16384 ≤ length room → Reads ws n room (k (standing (Some (under n w)) room))
 
 reads_none : ReadsFrom [] (λ s. s) []
 reads_none n room few long =
     record {
       good = sym (le-leb (n + 0) 16384 (omega arith));
-      count = λ e. omega arith;
-      numbers = λ e. rw (add-zero n) (sym (take-append-drop n room));
+      count = λ p e. sym (ap (λ (q : Progress). q.count) (same_Some (under n []) p e)) ∙ sym (add-zero n);
+      numbers = λ p e. rw (add-zero n) (sym (take-append-drop n room));
     }
 
 -- the word under way is done, and k reads those behind it
@@ -145,44 +147,44 @@ module _ (k : Standing → Standing) (ws : List (List ℕ)) (stays : (room : Lis
       some : suc (length w) ≢ 0
       some = suc-ne-zero (length w)
 
-      place : ltb n 16384 ≡ true → Reads ((b ∷ w) ∷ ws) n room (k (number_ended (standing (under n (b ∷ w)) room)))
+      place : ltb n 16384 ≡ true → Reads ((b ∷ w) ∷ ws) n room (k (number_ended (standing (Some (under n (b ∷ w))) room)))
       place t =
           let l = ltb-true n 16384 t in
-          rw (← stored (under n (b ∷ w)) room some l)
+          rw (stored (under n (b ∷ w)) room some l)
           (reads_more (b ∷ w) ws n room _ (number_begins b w ∙ h) (omega arith) (rest (n + 1) (set room n (value_from 0 (b ∷ w))) (omega arith) (rw length-set long)))
 
-      full : ltb n 16384 ≡ false → Reads ((b ∷ w) ∷ ws) n room (k (number_ended (standing (under n (b ∷ w)) room)))
+      full : ltb n 16384 ≡ false → Reads ((b ∷ w) ∷ ws) n room (k (number_ended (standing (Some (under n (b ∷ w))) room)))
       full t =
           let l = ltb-false n 16384 t in
-          rw (← no_place (under n (b ∷ w)) room some l, stays room) (reads_lost ((b ∷ w) ∷ ws) n room (λ a g. omega arith))
+          rw (no_place (under n (b ∷ w)) room some l, stays room) (reads_lost ((b ∷ w) ∷ ws) n room (λ a g. omega arith))
 
   reads_ended : (w : List ℕ) → begins w ≡ true → ReadsFrom w (λ s. k (number_ended s)) (ended w ws)
-  reads_ended [] h n room few long = rw (← no_number (under n []) room refl) (rest n room few long)
+  reads_ended [] h n room few long = rw (no_number (under n []) room refl) (rest n room few long)
   reads_ended (b ∷ w) h n room few long = reads_word b w h n room few long
 
 lost_stays : (text room : List ℕ) → text_taken text (standing lost room) ≡ standing lost room
 unfolding text_taken
-lost_stays [] room = sym (no_number lost room refl)
-lost_stays (b ∷ text) room = rw (← stays_lost lost room b refl) (lost_stays text room)
+lost_stays [] room = lost_ended room
+lost_stays (b ∷ text) room = rw (lost_taken room b) (lost_stays text room)
 
 -- the next byte is a gap, or another one, which makes the word under way right or wrong
 module _ (b : ℕ) (w text : List ℕ) (h : begins w ≡ true) where
   reads_gap : is_gap b ≡ true → ReadsFrom [] (text_taken text) (words_from [] text) → ReadsFrom w (text_taken (b ∷ text)) (words_from w (b ∷ text))
   unfolding text_taken
   reads_gap gap rest n room few long =
-      rw (words_gap b w text gap, ← by_gap (under n w) room b refl gap) (reads_ended (text_taken text) (words_from [] text) (lost_stays text) rest w h n room few long)
+      rw (words_gap b w text gap, by_gap (under n w) room b gap) (reads_ended (text_taken text) (words_from [] text) (lost_stays text) rest w h n room few long)
 
   module _ (other : is_gap b ≡ false) where
     reads_right : begins (w ++ (b ∷ [])) ≡ true → ReadsFrom (w ++ (b ∷ [])) (text_taken text) (words_from (w ++ (b ∷ [])) text)
         → ReadsFrom w (text_taken (b ∷ text)) (words_from w (b ∷ text))
     unfolding text_taken
     reads_right right rest n room few long =
-        rw (words_other b w text other, ← by_other (under n w) room b refl other, byte_right b w h n right) (rest n room few long)
+        rw (words_other b w text other, by_other (under n w) room b other, byte_right b w h n right) (rest n room few long)
 
     reads_wrong : begins (w ++ (b ∷ [])) ≡ false → ReadsFrom w (text_taken (b ∷ text)) (words_from w (b ∷ text))
     unfolding text_taken
     reads_wrong wrong n room few long =
-        rw (words_other b w text other, ← by_other (under n w) room b refl other, byte_wrong b w h n wrong, lost_stays text room)
+        rw (words_other b w text other, by_other (under n w) room b other, byte_wrong b w h n wrong, lost_stays text room)
         (reads_lost (words_from (w ++ (b ∷ [])) text) n room (λ a l. true≢false (sym (under_begins text (w ++ (b ∷ [])) a) ∙ wrong)))
 
     reads_other : (begins (w ++ (b ∷ [])) ≡ true → ReadsFrom (w ++ (b ∷ [])) (text_taken text) (words_from (w ++ (b ∷ [])) text))
@@ -201,34 +203,52 @@ reads_text (b ∷ text) w h =
 
 -- ---- through the text
 
--- what the rest of the text at place i comes to, the rest behind the next byte comes to
-pub byte_next : (text : List ℕ) (i : ℕ) (s w : Standing) → text_taken (drop i text) s ≡ w → i < length text
-    → (t : Standing) → t ≡ byte_taken (get_or text i 0) s → text_taken (drop (i + 1) text) t ≡ w
-unfolding text_taken
-byte_next text i s w rest h t e = rw e (list_next (λ bs. text_taken bs s) text i w rest 0 h)
+-- reading stands at s, with the bytes from place i on left, which come to what the whole text comes to
+abbrev pub Left : List ℕ → ℕ → Standing → List ℕ → Type 0
+Left text i s room = text_taken (drop i text) s ≡ text_taken text (standing (going 0 0 0) room)
 
--- a text that is too long is not well formed
-pub too_long : (text room : List ℕ) → 65536 < length text → Found text room lost room
-unfolding well_formed
-too_long text room h = record { good = rw (lt-leb (length text) 65536 h); count = λ e. absurd (true≢false (sym e)); numbers = λ e. absurd (true≢false (sym e)) }
+module _ (text room : List ℕ) where
+  -- the next byte is taken
+  pub byte_next : (i : ℕ) (s t : Standing) → Left text i s room → i < length text → t ≡ byte_taken (get_or text i 0) s → Left text (i + 1) t room
+  unfolding text_taken
+  byte_next i s t rest h e = rw e (list_next (λ bs. text_taken bs s) text i _ rest 0 h)
 
--- a text that is not too long is read to its end
-pub found : (text room : List ℕ) → 16384 ≤ length room → length text ≤ 65536 → (i : ℕ) (s : Standing)
-    → text_taken (drop i text) s ≡ text_taken text (standing (going 0 0 0) room) → length text ≤ i → (t : Standing) → t ≡ number_ended s
-    → Found text room t.progress t.room
-unfolding well_formed numbers_in text_taken
-found text room long short i s rest none t e =
-    record {
-      good = reads.good ∙ rw (le-leb (length text) 65536 short, zero-add (length ws));
-      count = λ h. reads.count h ∙ omega (arith, many);
-      numbers = λ h. reads.numbers h ∙ rw (many, zero-add (length ws));
-    }
-  where
-    ws : List (List ℕ)
-    ws = words_from [] text
+  -- a text that is too long is not well formed
+  pub too_long : 65536 < length text → Found text room None room
+  unfolding well_formed
+  too_long h = record { good = rw (lt-leb (length text) 65536 h); count = λ n e. absurd (none-some n e); numbers = λ n e. absurd (none-some n e) }
 
-    reads : Reads ws 0 room t
-    reads = rw (e ∙ list_end (λ bs. text_taken bs s) text i _ rest none) (reads_text text [] refl 0 room (omega arith) long)
+  module _ (long : 16384 ≤ length room) (short : length text ≤ 65536) where
+    abbrev words : List (List ℕ)
+    words = words_from [] text
 
-    many : length (map (value_from 0) ws) ≡ length ws
-    many = length-map ws (value_from 0)
+    -- where the whole text comes to t, its words are read
+    reads : (t : Standing) → t ≡ text_taken text (standing (going 0 0 0) room) → Reads words 0 room t
+    reads t e = rw e (reads_text text [] refl 0 room (omega arith) long)
+
+    as_words : (leb (length text) 65536 && all_numbers words && leb (length words) 16384) ≡ (all_numbers words && leb (0 + length words) 16384)
+    as_words = rw (le-leb (length text) 65536 short, zero-add (length words))
+
+    found : (q : Option Progress) (room' : List ℕ) → standing q room' ≡ text_taken text (standing (going 0 0 0) room)
+        → Found text room (option_map (λ (p : Progress). p.count) q) room'
+    unfolding well_formed numbers_in
+    found None room' e =
+        record { good = (reads (standing lost room') e).good ∙ sym as_words; count = λ n h. absurd (none-some n h); numbers = λ n h. absurd (none-some n h) }
+    found (Some p) room' e =
+        let r = reads (standing (Some p) room') e in
+        let many : length (map (value_from 0) words) ≡ length words = length-map words (value_from 0) in
+        record {
+          good = r.good ∙ sym as_words;
+          count = λ n h. sym (same_Some p.count n h) ∙ r.count p refl ∙ omega (arith, many);
+          numbers = λ n h. r.numbers p refl ∙ rw (many, zero-add (length words));
+        }
+
+    -- from some place on all is lost: the text is malformed
+    pub found_lost : (i : ℕ) (room' : List ℕ) → Left text i (standing lost room') room → Found text room None room'
+    found_lost i room' rest = found None room' (sym (lost_stays (drop i text) room') ∙ rest)
+
+    -- the text is read to its end
+    pub found_end : (i : ℕ) (s : Standing) → Left text i s room → length text ≤ i → (q : Option Progress) (room' : List ℕ) → standing q room' ≡ number_ended s
+        → Found text room (option_map (λ (p : Progress). p.count) q) room'
+    unfolding text_taken
+    found_end i s rest none q room' e = found q room' (e ∙ list_end (λ bs. text_taken bs s) text i _ rest none)

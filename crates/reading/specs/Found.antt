@@ -1,10 +1,9 @@
 -- What is found in a text: whether it is well formed, and then its numbers, at the front of the room.
-use Rattle.std.specs.Prelude.{◌≡◌, true, List, ◌++◌, ℕ, length, drop}
-use Rattle.reading.specs.declared.Progress.{Progress}
+use Rattle.std.specs.Prelude.{◌≡◌, List, ◌++◌, ℕ, length, drop, Option, Some, is_some}
 use Rattle.reading.specs.Reading.{well_formed, numbers_in}
 
--- p is how far reading has come at the end of the text, and room' the room then, which was `room`
-pub record Found (text room : List ℕ) (p : Progress) (room' : List ℕ) : Type 0 where
-  pub good : p.good ≡ well_formed text
-  pub count : p.good ≡ true → p.count ≡ length (numbers_in text)
-  pub numbers : p.good ≡ true → room' ≡ numbers_in text ++ drop (length (numbers_in text)) room
+-- r is how many numbers were read, or None, at the end of the text, and room' the room then, which was `room`
+pub record Found (text room : List ℕ) (r : Option ℕ) (room' : List ℕ) : Type 0 where
+  pub good : is_some r ≡ well_formed text
+  pub count : (n : ℕ) → r ≡ Some n → n ≡ length (numbers_in text)
+  pub numbers : (n : ℕ) → r ≡ Some n → room' ≡ numbers_in text ++ drop (length (numbers_in text)) room

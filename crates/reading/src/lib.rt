@@ -5,37 +5,15 @@ ghost use Rattle.std.specs.Prelude.{◌≡◌, ◌≤◌, length};
 ghost use Rattle.reading.specs.Reading.{is_gap, is_digit};
 ghost use Rattle.reading.specs.Call.{after_reading};
 ghost use Rattle.reading.specs.Found.{Found};
-ghost use Rattle.reading.specs.Standing.{standing, lost, digit_added, number_ended, byte_taken};
+ghost use Rattle.reading.specs.Standing.{standing, digit_added, number_ended, byte_taken};
 
-use basics::clear_numbers;
-
-// How many numbers were read; or nothing, because the text is malformed or the room for numbers is too short.
-#[derive(Clone, Copy)]
-pub enum Read {
-    Numbers(usize),
-    Nothing,
-}
-
-// How far reading has come: whether all is well so far, how many numbers are done, how many digits the number under way has
-// (0: none is under way), and the value that they say.
+// How far reading has come where all is well so far: how many numbers are done, how many digits the number under way has (0: none is under way), and the value that
+// they say.
 #[derive(Clone, Copy)]
 struct Progress {
-    good: bool,
     count: usize,
     digits: usize,
     value: u32,
-}
-
-// The text is malformed, whatever follows.
-fn lost() -> Progress
-    ensures { result ≡ lost }
-{
-    Progress {
-        good: false,
-        count: 0,
-        digits: 0,
-        value: 0,
-    }
 }
 
 // Whether `b` is a space or a newline.
@@ -59,96 +37,94 @@ fn is_digit(b: u8) -> bool
 }
 
 // `b` is one more digit of the number under way: all is lost if it is no digit, there are ten already, or the value is too large.
-fn add_digit(p: Progress, b: u8) -> Progress
+#[tactic(auto, unfolding(crate::specs::Standing::digit_added))]
+fn add_digit(p: Progress, b: u8) -> Option<Progress>
     ensures { result ≡ digit_added b p }
 {
     if 10 <= p.digits {
-        return lost();
+        return None;
     }
     if !is_digit(b) {
-        return lost();
+        return None;
     }
     let v = p.value as u64 * 10 + (b - b'0') as u64;
     if 4294967295 < v {
-        return lost();
+        return None;
     }
-    Progress {
-        good: true,
+    Some(Progress {
         count: p.count,
         digits: p.digits + 1,
         value: v as u32,
-    }
+    })
 }
 
 // The number under way, if there is one, goes behind those that are done: all is lost if there are 16,384 already.
-fn end_number(numbers: &mut [u32], p: Progress) -> Progress
+#[tactic(auto, unfolding(crate::specs::Standing::number_ended))]
+fn end_number(numbers: &mut [u32], p: Progress) -> Option<Progress>
     requires { 16384 ≤ length numbers.old }
-    ensures { standing result numbers.new ≡ number_ended (standing p numbers.old) }
+    ensures { standing result numbers.new ≡ number_ended (standing (Some p) numbers.old) }
 {
     if p.digits == 0 {
-        return p;
+        return Some(p);
     }
     let at = p.count;
     if 16384 <= at {
-        return lost();
+        return None;
     }
     numbers[at] = p.value;
-    Progress {
-        good: true,
+    Some(Progress {
         count: at + 1,
         digits: 0,
         value: 0,
-    }
+    })
 }
 
-// A gap ends the number under way, and any other byte belongs to it; what is lost stays so.
-fn take_byte(numbers: &mut [u32], p: Progress, b: u8) -> Progress
+// A gap ends the number under way, and any other byte belongs to it.
+#[tactic(auto, unfolding(crate::specs::Standing::byte_taken))]
+fn take_byte(numbers: &mut [u32], p: Progress, b: u8) -> Option<Progress>
     requires { 16384 ≤ length numbers.old }
-    ensures { standing result numbers.new ≡ byte_taken b (standing p numbers.old) }
+    ensures { standing result numbers.new ≡ byte_taken b (standing (Some p) numbers.old) }
 {
-    if !p.good {
-        return p;
-    }
     if is_gap(b) {
         return end_number(numbers, p);
     }
     add_digit(p, b)
 }
 
-// The text from its first byte to its last: its numbers go to the front of `numbers`.
-fn scan(text: &[u8], numbers: &mut [u32]) -> Progress
+// The text from its first byte to its last: its numbers go to the front of `numbers`. How many they are, or None where the text is malformed.
+#[tactic(auto, using(crate::proofs::Scanning::too_long))]
+fn scan(text: &[u8], numbers: &mut [u32]) -> Option<usize>
     requires { 16384 ≤ length numbers.old }
     ensures { Found text.now numbers.old result numbers.new }
 {
     if 65536 < text.len() {
-        return lost();
+        return None;
     }
     let mut p = Progress {
-        good: true,
         count: 0,
         digits: 0,
         value: 0,
     };
-    let mut i: usize = 0;
-    while i < text.len() {
-        p = take_byte(numbers, p, text[i]);
-        i += 1;
+    for b in text {
+        p = take_byte(numbers, p, *b)?;
     }
-    end_number(numbers, p)
+    let end = end_number(numbers, p)?;
+    Some(end.count)
 }
 
-// The numbers of `text` go to the front of `numbers`, which has to have room for 16,384. Where nothing is read `numbers` is zero.
-pub fn read_numbers(text: &[u8], numbers: &mut [u32]) -> Read
+// The numbers of `text` go to the front of `numbers`, which has to have room for 16,384. How many they are; or None, because the text is malformed or the room too
+// short, and then `numbers` is zero.
+#[tactic(auto, using(crate::proofs::Calls::short_room))]
+pub fn read_numbers(text: &[u8], numbers: &mut [u32]) -> Option<usize>
     ensures { record { answer = result; room = numbers.new } ≡ after_reading text.now numbers.old }
 {
     if numbers.len() < 16384 {
-        clear_numbers(numbers);
-        return Read::Nothing;
+        numbers.fill(0);
+        return None;
     }
-    let end = scan(text, numbers);
-    if end.good {
-        return Read::Numbers(end.count);
+    let read = scan(text, numbers);
+    if read.is_none() {
+        numbers.fill(0);
     }
-    clear_numbers(numbers);
-    Read::Nothing
+    read
 }

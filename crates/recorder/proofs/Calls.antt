@@ -7,13 +7,11 @@ use Prim.Native.Nat.{ℕ, suc, ◌+◌, ◌-◌, ◌*◌, ◌/◌, ◌%◌, ◌�
 use native.Mathlib.Omega.{arith}
 use borrow.Author.Tests.{eq-eqb, ne_eqb, lt-ltb, le-ltb}
 use lib.ListN.{length, get_or, take, replicate, length-append}
+use Rattle.std.specs.Prelude.{Ok, Err}
 use Rattle.rules.specs.declared.Refusal.TheVariants.{Accesses as TooMany, TraceLength, TraceRoom}
-use Rattle.rules.specs.declared.Verdict.{Verdict}
-use Rattle.rules.specs.declared.Verdict.TheVariants.{Accepted, Refused}
-use Rattle.rules.specs.Answers.{first}
+use Rattle.rules.specs.Answers.{first, Verdict}
 use Rattle.rules.proofs.Refusals.{numbered}
-use Rattle.recorder.specs.declared.Reading.TheVariants.{Accesses, Damaged, Refused as RefusedReading}
-use Rattle.recorder.specs.declared.Counted.TheVariants.{Blocks, Refused as RefusedCount}
+use Rattle.recorder.specs.declared.Reading.TheVariants.{Accesses, Damaged}
 use Rattle.trace_blocks.specs.Blocks.{is_sound}
 use Rattle.recorder.specs.Traces.{blocks_of, gathered, damage_at, said, damaged_places}
 use Rattle.recorder.specs.Written.{blocks_for, trace_of}
@@ -26,14 +24,14 @@ use Rattle.recorder.proofs.Fronts.{front_ends}
 -- ---- the first reason to refuse
 
 module _ (each bytes room : ℕ) where
-  not_whole : bytes % 512 ≢ 0 → first (trace_reasons each bytes room) ≡ Refused TraceLength
+  not_whole : bytes % 512 ≢ 0 → first (trace_reasons each bytes room) ≡ Err TraceLength
   not_whole h = rw (ne_eqb (bytes % 512) 0 h)
 
   module _ (whole : bytes % 512 ≡ 0) where
-    no_room : room < bytes / 512 * each → first (trace_reasons each bytes room) ≡ Refused TraceRoom
+    no_room : room < bytes / 512 * each → first (trace_reasons each bytes room) ≡ Err TraceRoom
     no_room h = rw (eq-eqb (bytes % 512) 0 whole, lt-ltb room (bytes / 512 * each) h)
 
-    pub room_enough : bytes / 512 * each ≤ room → first (trace_reasons each bytes room) ≡ Accepted
+    pub room_enough : bytes / 512 * each ≤ room → first (trace_reasons each bytes room) ≡ Ok tt
     room_enough h = rw (eq-eqb (bytes % 512) 0 whole, le-ltb room (bytes / 512 * each) h)
 
 -- ---- the room beyond becomes zero
@@ -47,31 +45,31 @@ module _ (xs room room' ys : List ℕ) (r : ℕ) (same : length room' ≡ length
 -- ---- reading
 
 module _ (trace room : List ℕ) where
-  pub read_not_whole : length trace % 512 ≢ 0 → record { answer = RefusedReading TraceLength; room = room } ≡ trace_read trace room
+  pub read_not_whole : length trace % 512 ≢ 0 → record { answer = Err TraceLength; room = room } ≡ trace_read trace room
   unfolding trace_read
   read_not_whole h = rw (not_whole 125 (length trace) (length room) h)
 
   module _ (whole : length trace % 512 ≡ 0) where
-    pub read_no_room : length room < length trace / 512 * 125 → record { answer = RefusedReading TraceRoom; room = room } ≡ trace_read trace room
+    pub read_no_room : length room < length trace / 512 * 125 → record { answer = Err TraceRoom; room = room } ≡ trace_read trace room
     unfolding trace_read
     read_no_room h = rw (no_room 125 (length trace) (length room) whole h)
 
     module _ (enough : length trace / 512 * 125 ≤ length room) where
       pub read_damaged : (p : ℕ) → p ≡ get_or (damaged_places trace) 0 (length trace / 512) → p < length trace / 512
-          → record { answer = Damaged p; room = room } ≡ trace_read trace room
+          → record { answer = Ok (Damaged p); room = room } ≡ trace_read trace room
       unfolding trace_read
       read_damaged p e h = rw (room_enough 125 (length trace) (length room) whole enough) (go (damaged_places trace) e)
         where
-          go : (ps : List ℕ) → p ≡ get_or ps 0 (length trace / 512) → record { answer = Damaged p; room = room } ≡ read_leaves Accepted ps (said trace) room
+          go : (ps : List ℕ) → p ≡ get_or ps 0 (length trace / 512) → record { answer = Ok (Damaged p); room = room } ≡ read_leaves (Ok tt) ps (said trace) room
           go [] q = absurd (omega arith)
           go (x ∷ ps) q = rw q
 
       pub read_done : damaged_places trace ≡ [] → (r : ℕ) (room' ys : List ℕ) → Front (said trace) r room' → length room' ≡ length room
-          → ys ≡ replicate (length (rest_from r room')) 0 → record { answer = Accesses r; room = with_rest r room' ys } ≡ trace_read trace room
+          → ys ≡ replicate (length (rest_from r room')) 0 → record { answer = Ok (Accesses r); room = with_rest r room' ys } ≡ trace_read trace room
       unfolding trace_read
       read_done none r room' ys f same zeros =
           rw (room_enough 125 (length trace) (length room) whole enough, none, filled_room (said trace) room room' ys r same f zeros)
-          (ap (λ (n : ℕ). record { answer = Accesses n; room = zero_beyond (said trace) room }) (front_ends (said trace) room' r f))
+          (ap (λ (n : ℕ). record { answer = Ok (Accesses n); room = zero_beyond (said trace) room }) (front_ends (said trace) room' r f))
 
 -- no first damaged place, no damaged place
 none_from : (n k : ℕ) (bs : List (List ℕ)) → k + length bs ≤ n → n ≤ get_or (gathered damage_at k bs) 0 n → gathered damage_at k bs ≡ []
@@ -91,37 +89,37 @@ none_damaged trace p e h = none_from (length trace / 512) 0 (blocks_of trace) (o
 -- ---- listing
 
 module _ (trace room : List ℕ) where
-  pub list_not_whole : length trace % 512 ≢ 0 → record { answer = RefusedCount TraceLength; room = room } ≡ trace_listed trace room
+  pub list_not_whole : length trace % 512 ≢ 0 → record { answer = Err TraceLength; room = room } ≡ trace_listed trace room
   unfolding trace_listed
   list_not_whole h = rw (not_whole 1 (length trace) (length room) h)
 
   module _ (whole : length trace % 512 ≡ 0) where
-    pub list_no_room : length room < length trace / 512 → record { answer = RefusedCount TraceRoom; room = room } ≡ trace_listed trace room
+    pub list_no_room : length room < length trace / 512 → record { answer = Err TraceRoom; room = room } ≡ trace_listed trace room
     unfolding trace_listed
     list_no_room h = rw (no_room 1 (length trace) (length room) whole (omega arith))
 
     pub list_done : length trace / 512 ≤ length room → (r : ℕ) (room' ys : List ℕ) → Front (damaged_places trace) r room' → length room' ≡ length room
-        → ys ≡ replicate (length (rest_from r room')) 0 → record { answer = Blocks r; room = with_rest r room' ys } ≡ trace_listed trace room
+        → ys ≡ replicate (length (rest_from r room')) 0 → record { answer = Ok r; room = with_rest r room' ys } ≡ trace_listed trace room
     unfolding trace_listed
     list_done h r room' ys f same zeros =
         rw (room_enough 1 (length trace) (length room) whole (omega arith), filled_room (damaged_places trace) room room' ys r same f zeros)
-        (ap (λ (n : ℕ). record { answer = Blocks n; room = zero_beyond (damaged_places trace) room }) (front_ends (damaged_places trace) room' r f))
+        (ap (λ (n : ℕ). record { answer = Ok n; room = zero_beyond (damaged_places trace) room }) (front_ends (damaged_places trace) room' r f))
 
 -- ---- writing
 
 module _ (xs room : List ℕ) where
-  pub write_too_many : 4096 < length xs → record { answer = RefusedCount TooMany; room = room } ≡ trace_written xs room
+  pub write_too_many : 4096 < length xs → record { answer = Err TooMany; room = room } ≡ trace_written xs room
   unfolding trace_written
   write_too_many h = rw (lt-ltb 4096 (length xs) h)
 
   module _ (few : length xs ≤ 4096) where
-    pub write_no_room : length room < blocks_for (length xs) * 512 → record { answer = RefusedCount TraceRoom; room = room } ≡ trace_written xs room
+    pub write_no_room : length room < blocks_for (length xs) * 512 → record { answer = Err TraceRoom; room = room } ≡ trace_written xs room
     unfolding trace_written
     write_no_room h = rw (le-ltb 4096 (length xs) few, lt-ltb (length room) (blocks_for (length xs) * 512) h)
 
     pub write_done : blocks_for (length xs) * 512 ≤ length room → (room' ys : List ℕ) → take (blocks_for (length xs) * 512) room' ≡ trace_of xs
         → length room' ≡ length room → ys ≡ replicate (length (rest_from (blocks_for (length xs) * 512) room')) 0
-        → record { answer = Blocks (blocks_for (length xs)); room = with_rest (blocks_for (length xs) * 512) room' ys } ≡ trace_written xs room
+        → record { answer = Ok (blocks_for (length xs)); room = with_rest (blocks_for (length xs) * 512) room' ys } ≡ trace_written xs room
     unfolding trace_written
     write_done h room' ys stands same zeros =
         let n : ℕ = blocks_for (length xs) * 512 in
@@ -138,25 +136,25 @@ unfolding zero_beyond
 filled_long xs room = omega (arith, length-append xs (replicate (length room - length xs) 0))
 
 module _ (trace room room' : List ℕ) (n : ℕ) where
-  pub read_within : record { answer = Accesses n; room = room' } ≡ trace_read trace room → n ≤ length room'
+  pub read_within : record { answer = Ok (Accesses n); room = room' } ≡ trace_read trace room → n ≤ length room'
   unfolding trace_read
   read_within e = go (first (trace_reasons 125 (length trace) (length room))) (damaged_places trace) (said trace) e
     where
-      go : (v : Verdict) (ps xs : List ℕ) → record { answer = Accesses n; room = room' } ≡ read_leaves v ps xs room → n ≤ length room'
-      go (Refused r) ps xs q = absurd (numbered r (sym (ap (λ (a : ReadLeft). (reading_says a.answer).number) q)))
-      go Accepted (p ∷ ps) xs q = let z : ◌≡◌ {A = ℕ} 0 13 = ap (λ (a : ReadLeft). (reading_says a.answer).number) q in absurd (omega arith)
-      go Accepted [] xs q =
+      go : (v : Verdict) (ps xs : List ℕ) → record { answer = Ok (Accesses n); room = room' } ≡ read_leaves v ps xs room → n ≤ length room'
+      go (Err r) ps xs q = absurd (numbered r (sym (ap (λ (a : ReadLeft). (reading_says a.answer).number) q)))
+      go (Ok tt) (p ∷ ps) xs q = let z : ◌≡◌ {A = ℕ} 0 13 = ap (λ (a : ReadLeft). (reading_says a.answer).number) q in absurd (omega arith)
+      go (Ok tt) [] xs q =
           let many : n ≡ length xs = ap (λ (a : ReadLeft). (reading_says a.answer).value) q in
           let long : length room' ≡ length (zero_beyond xs room) = ap (λ (a : ReadLeft). length a.room) q in
           omega (arith, many, long, filled_long xs room)
 
-  pub listed_within : record { answer = Blocks n; room = room' } ≡ trace_listed trace room → n ≤ length room'
+  pub listed_within : record { answer = Ok n; room = room' } ≡ trace_listed trace room → n ≤ length room'
   unfolding trace_listed
   listed_within e = go (first (trace_reasons 1 (length trace) (length room))) (damaged_places trace) e
     where
-      go : (v : Verdict) (ps : List ℕ) → record { answer = Blocks n; room = room' } ≡ count_leaves v (length ps) ps room → n ≤ length room'
-      go (Refused r) ps q = absurd (numbered r (sym (ap (λ (a : CountLeft). (counted_says a.answer).number) q)))
-      go Accepted ps q =
+      go : (v : Verdict) (ps : List ℕ) → record { answer = Ok n; room = room' } ≡ count_leaves v (length ps) ps room → n ≤ length room'
+      go (Err r) ps q = absurd (numbered r (sym (ap (λ (a : CountLeft). (counted_says a.answer).number) q)))
+      go (Ok tt) ps q =
           let many : n ≡ length ps = ap (λ (a : CountLeft). (counted_says a.answer).value) q in
           let long : length room' ≡ length (zero_beyond ps room) = ap (λ (a : CountLeft). length a.room) q in
           omega (arith, many, long, filled_long ps room)

@@ -9,10 +9,9 @@ use native.Mathlib.Omega.{arith}
 use borrow.Author.Tests.{le-ltb}
 use lib.ListN.{length, get_or, set, take, replicate}
 use lib.Seq.{take_at}
+use Rattle.std.specs.Prelude.{Ok}
 use Rattle.rules.specs.Ordered.{by_number, rises}
-use Rattle.rules.specs.declared.Verdict.TheVariants.{Accepted}
 use Rattle.recorder.specs.declared.Reading.TheVariants.{Accesses, Damaged}
-use Rattle.recorder.specs.declared.Counted.TheVariants.{Blocks}
 use Rattle.trace_blocks.specs.Blocks.{count_in, is_sound}
 use Rattle.recorder.specs.Traces.{blocks_of, said, damaged_places}
 use Rattle.recorder.specs.Written.{blocks_for, trace_of}
@@ -45,7 +44,7 @@ module _ (xs room out : List ℕ) (few : length xs ≤ 4096)
       rw (le-ltb 4096 (length xs) few, le-ltb (length room) (blocks_for (length xs) * 512) room_fits)
       (take_at (trace_of xs) (replicate (length room - length (trace_of xs)) 0) (blocks_for (length xs) * 512) (back.length_written xs))
 
-  pub read_back : trace_read (take (blocks_for (length xs) * 512) (trace_written xs room).room) out ≡ record { answer = Accesses (length xs); room = zero_beyond xs out }
+  pub read_back : trace_read (take (blocks_for (length xs) * 512) (trace_written xs room).room) out ≡ record { answer = Ok (Accesses (length xs)); room = zero_beyond xs out }
   unfolding trace_read
   read_back =
       let size = back.length_written xs in
@@ -79,26 +78,26 @@ rise trace = places.places_rise trace
 -- where listing counts a damaged block, reading refuses with the first place that is listed; where it counts none, reading reads
 module _ (trace room listed : List ℕ) (whole : length trace % 512 ≡ 0)
     (room_fits : length trace / 512 * 125 ≤ length room) (listed-fits : length trace / 512 ≤ length listed) where
-  read_leaves_lem : trace_read trace room ≡ read_leaves Accepted (damaged_places trace) (said trace) room
+  read_leaves_lem : trace_read trace room ≡ read_leaves (Ok tt) (damaged_places trace) (said trace) room
   unfolding trace_read
   read_leaves_lem = rw (room_enough 125 (length trace) (length room) whole room_fits)
 
-  list_leaves : trace_listed trace listed ≡ count_leaves Accepted (length (damaged_places trace)) (damaged_places trace) listed
+  list_leaves : trace_listed trace listed ≡ count_leaves (Ok tt) (length (damaged_places trace)) (damaged_places trace) listed
   unfolding trace_listed
   list_leaves = rw (room_enough 1 (length trace) (length listed) whole (omega arith))
 
-  pub first_refused : (n : ℕ) → (trace_listed trace listed).answer ≡ Blocks (suc n) → (trace_read trace room).answer ≡ Damaged (get_or (trace_listed trace listed).room 0 0)
+  pub first_refused : (n : ℕ) → (trace_listed trace listed).answer ≡ Ok (suc n) → (trace_read trace room).answer ≡ Ok (Damaged (get_or (trace_listed trace listed).room 0 0))
   unfolding zero_beyond
   first_refused n h = rw (read_leaves_lem, list_leaves) (go (damaged_places trace) (rw list_leaves at h))
     where
-      go : (ps : List ℕ) → (count_leaves Accepted (length ps) ps listed).answer ≡ Blocks (suc n)
-          → (read_leaves Accepted ps (said trace) room).answer ≡ Damaged (get_or (count_leaves Accepted (length ps) ps listed).room 0 0)
+      go : (ps : List ℕ) → (count_leaves (Ok tt) (length ps) ps listed).answer ≡ Ok (suc n)
+          → (read_leaves (Ok tt) ps (said trace) room).answer ≡ Ok (Damaged (get_or (count_leaves (Ok tt) (length ps) ps listed).room 0 0))
       go [] e = let z : ◌≡◌ {A = ℕ} 0 (suc n) = cc in absurd (omega arith)
       go (p ∷ ps) e = refl
 
-  pub none_refused : (trace_listed trace listed).answer ≡ Blocks 0 → (trace_read trace room).answer ≡ Accesses (length (said trace))
+  pub none_refused : (trace_listed trace listed).answer ≡ Ok 0 → (trace_read trace room).answer ≡ Ok (Accesses (length (said trace)))
   none_refused h = rw read_leaves_lem (go (damaged_places trace) (rw list_leaves at h))
     where
-      go : (ps : List ℕ) → (count_leaves Accepted (length ps) ps listed).answer ≡ Blocks 0 → (read_leaves Accepted ps (said trace) room).answer ≡ Accesses (length (said trace))
+      go : (ps : List ℕ) → (count_leaves (Ok tt) (length ps) ps listed).answer ≡ Ok 0 → (read_leaves (Ok tt) ps (said trace) room).answer ≡ Ok (Accesses (length (said trace)))
       go [] e = refl
       go (p ∷ ps) e = let z : ◌≡◌ {A = ℕ} (suc (length ps)) 0 = cc in absurd (omega arith)

@@ -1,28 +1,25 @@
 -- What a call leaves: its answer, and the room that was lent to it. A refusal leaves the room as it was.
-use Rattle.std.specs.Prelude.{not, List, [], ◌∷◌, ◌++◌, ℕ, ◌-◌, ◌*◌, ◌/◌, ◌%◌, eqb, ltb, length, replicate}
+use Rattle.std.specs.Prelude.{not, List, [], ◌∷◌, ◌++◌, ℕ, ◌-◌, ◌*◌, ◌/◌, ◌%◌, eqb, ltb, length, replicate, Result, Ok, Err}
+use Rattle.rules.specs.declared.Refusal.{Refusal}
 use Rattle.rules.specs.declared.Refusal.TheVariants.{Accesses as TooMany, TraceLength, TraceRoom}
-use Rattle.rules.specs.declared.Verdict.{Verdict}
-use Rattle.rules.specs.declared.Verdict.TheVariants.{Accepted, Refused}
-use Rattle.rules.specs.Answers.{number_of, Reason, when, first, AnswerSays}
+use Rattle.rules.specs.Answers.{number_of, Reason, when, first, AnswerSays, Verdict}
 use Rattle.recorder.specs.declared.Reading.{Reading}
-use Rattle.recorder.specs.declared.Reading.TheVariants.{Accesses, Damaged, Refused as RefusedReading}
-use Rattle.recorder.specs.declared.Counted.{Counted}
-use Rattle.recorder.specs.declared.Counted.TheVariants.{Blocks, Refused as RefusedCount}
+use Rattle.recorder.specs.declared.Reading.TheVariants.{Accesses, Damaged}
 use Rattle.recorder.specs.Traces.{said, damaged_places}
 use Rattle.recorder.specs.Written.{blocks_for, trace_of}
 
 -- ---- what each answer says: 0 and a value, or the number of the refusal
 
 -- reading: how many accesses; or 13 and the place of the first damaged block
-abbrev pub reading_says : Reading → AnswerSays
-reading_says (Accesses n) = record { number = 0; value = n }
-reading_says (Damaged p) = record { number = 13; value = p }
-reading_says (RefusedReading r) = record { number = number_of r; value = 0 }
+abbrev pub reading_says : Result Reading Refusal → AnswerSays
+reading_says (Ok (Accesses n)) = record { number = 0; value = n }
+reading_says (Ok (Damaged p)) = record { number = 13; value = p }
+reading_says (Err r) = record { number = number_of r; value = 0 }
 
 -- listing, writing: how many blocks are damaged, or were written
-abbrev pub counted_says : Counted → AnswerSays
-counted_says (Blocks n) = record { number = 0; value = n }
-counted_says (RefusedCount r) = record { number = number_of r; value = 0 }
+abbrev pub counted_says : Result ℕ Refusal → AnswerSays
+counted_says (Ok n) = record { number = 0; value = n }
+counted_says (Err r) = record { number = number_of r; value = 0 }
 
 -- ---- the first reason to refuse
 
@@ -42,14 +39,14 @@ zero_beyond xs room = xs ++ replicate (length room - length xs) 0
 
 -- the answer of reading, and the room for accesses
 pub record ReadLeft : Type 0 where
-  pub answer : Reading
+  pub answer : Result Reading Refusal
   pub room : List ℕ
 
 -- by the reason to refuse, the places of the damaged blocks, and the accesses that the trace says: 13 for the first damaged block, or the accesses in the room
 abbrev pub read_leaves : Verdict → List ℕ → List ℕ → List ℕ → ReadLeft
-read_leaves (Refused r) ps xs room = record { answer = RefusedReading r; room = room }
-read_leaves Accepted (p ∷ ps) xs room = record { answer = Damaged p; room = room }
-read_leaves Accepted [] xs room = record { answer = Accesses (length xs); room = zero_beyond xs room }
+read_leaves (Err r) ps xs room = record { answer = Err r; room = room }
+read_leaves (Ok tt) (p ∷ ps) xs room = record { answer = Ok (Damaged p); room = room }
+read_leaves (Ok tt) [] xs room = record { answer = Ok (Accesses (length xs)); room = zero_beyond xs room }
 
 -- what reading a trace leaves
 unfoldable pub trace_read : List ℕ → List ℕ → ReadLeft
@@ -57,13 +54,13 @@ trace_read trace room = read_leaves (first (trace_reasons 125 (length trace) (le
 
 -- the answer of listing or writing, and the room for places or for the trace
 pub record CountLeft : Type 0 where
-  pub answer : Counted
+  pub answer : Result ℕ Refusal
   pub room : List ℕ
 
 -- by the reason to refuse: n is answered, and xs are at the front of the room
 abbrev pub count_leaves : Verdict → ℕ → List ℕ → List ℕ → CountLeft
-count_leaves (Refused r) n xs room = record { answer = RefusedCount r; room = room }
-count_leaves Accepted n xs room = record { answer = Blocks n; room = zero_beyond xs room }
+count_leaves (Err r) n xs room = record { answer = Err r; room = room }
+count_leaves (Ok tt) n xs room = record { answer = Ok n; room = zero_beyond xs room }
 
 -- what listing the damaged blocks of a trace leaves
 unfoldable pub trace_listed : List ℕ → List ℕ → CountLeft

@@ -29,10 +29,8 @@ pub(crate) fn write_all(accesses: &[u32], trace: &mut [u8])
     requires { (length accesses.now ≤ 4096) × (blocks_for (length accesses.now) * 512 ≤ length trace.old) }
     ensures { take (blocks_for (length accesses.now) * 512) trace.new ≡ trace_of accesses.now }
 {
-    let mut k: usize = 0;
-    while k < (accesses.len() + 124) / 125 {
+    for k in 0..(accesses.len() + 124) / 125 {
         let end = block_end(k * 125, accesses.len());
         write_at(&accesses[k * 125..end], k as u32, trace, k * 512);
-        k += 1;
     }
 }

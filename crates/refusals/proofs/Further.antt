@@ -1,5 +1,5 @@
 -- The best case's verdict is the graph call's with two reasons more in their places: by cases of which reasons apply.
-use mathlib.Core.Path.{◌≡◌, refl}
+use mathlib.Core.Path.{◌≡◌, refl, sym}
 use mathlib.Core.Bool.{Bool, true, false, not}
 use mathlib.Core.List.{[], ◌∷◌}
 use lib.Dec.{eqb}
@@ -28,8 +28,9 @@ by_cases false false false false false false false true e p = refl
 by_cases false false false false false false false false e true = refl
 by_cases false false false false false false false false e false = refl
 
-pub further_best : (i : Input) → further_of (verdict i) (eqb i.revision 2) (all_tracked i.tracked i.accesses) ≡ best_verdict i
+pub best_further : (i : Input) → best_verdict i ≡ further_of (verdict i) (eqb i.revision 2) (all_tracked i.tracked i.accesses)
 unfolding verdict reasons best_verdict best_reasons
-further_best i =
-    by_cases (ways_reason i).applies (sets_reason i).applies (revision_reason i).applies (limit_reason i).applies (tracked_reason i).applies
-    (accesses_reason i).applies (graph_reason i).applies (room_reason i).applies (eqb i.revision 2) (all_tracked i.tracked i.accesses)
+best_further i =
+    sym
+    (by_cases (ways_reason i).applies (sets_reason i).applies (revision_reason i).applies (limit_reason i).applies (tracked_reason i).applies
+    (accesses_reason i).applies (graph_reason i).applies (room_reason i).applies (eqb i.revision 2) (all_tracked i.tracked i.accesses))

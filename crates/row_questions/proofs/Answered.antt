@@ -1,4 +1,5 @@
 -- What is answered: 7 for what is no row, and otherwise what is asked.
+use Rattle.std.specs.Prelude.{Err, Ok}
 use mathlib.Core.Path.{◌≡◌}
 use mathlib.Core.Bool.{Bool, true, false, ◌&&◌, and-false}
 use mathlib.Core.List.{List}
@@ -9,8 +10,6 @@ use borrow.Author.Tests.{eqb-true, le-leb, lt-leb}
 use Rattle.basics.specs.Sums.{sum_over}
 use Rattle.basics.proofs.Bools.{and_right}
 use Rattle.rules.specs.declared.Refusal.TheVariants.{Row}
-use Rattle.rules.specs.declared.Amount.TheVariants.{Units, Refused as RefusedAmount}
-use Rattle.rules.specs.declared.Count.TheVariants.{Misses, Refused as RefusedCount}
 use Rattle.rules.specs.Units.{whole, units}
 use Rattle.rules.specs.Questions.{largest, above, smallest_budget}
 use Rattle.row_questions.specs.Row.{states_of, is_row, row_above, row_budget, row_spread}
@@ -37,27 +36,27 @@ module _ (row : List ℕ) where
     unfolding is_row
     row_total = eqb-true _ _ (and_right (leb 1 (length row) && leb (length row) 4097) (eqb (sum_over (λ n. n) row) whole) h)
 
-    pub above_answered : (B u : ℕ) → u ≡ above B (states_of row) → Units (units u) ≡ row_above row B
+    pub above_answered : (B u : ℕ) → u ≡ above B (states_of row) → Ok (units u) ≡ row_above row B
     unfolding row_above
     above_answered B u e = rw (h, e)
 
-    pub budget_answered : (u B : ℕ) → B ≡ smallest_budget u (states_of row) → Misses B ≡ row_budget row u
+    pub budget_answered : (u B : ℕ) → B ≡ smallest_budget u (states_of row) → Ok B ≡ row_budget row u
     unfolding row_budget
     budget_answered u B e = rw (h, e)
 
-    pub spread_answered : (m : ℕ) → m ≡ largest (states_of row) → Misses m ≡ row_spread row
+    pub spread_answered : (m : ℕ) → m ≡ largest (states_of row) → Ok m ≡ row_spread row
     unfolding row_spread
     spread_answered m e = rw (h, e)
 
   module _ (h : is_row row ≡ false) where
-    pub above_refused : (B : ℕ) → RefusedAmount Row ≡ row_above row B
+    pub above_refused : (B : ℕ) → Err Row ≡ row_above row B
     unfolding row_above
     above_refused B = rw h
 
-    pub budget_refused : (u : ℕ) → RefusedCount Row ≡ row_budget row u
+    pub budget_refused : (u : ℕ) → Err Row ≡ row_budget row u
     unfolding row_budget
     budget_refused u = rw h
 
-    pub spread_refused : RefusedCount Row ≡ row_spread row
+    pub spread_refused : Err Row ≡ row_spread row
     unfolding row_spread
     spread_refused = rw h

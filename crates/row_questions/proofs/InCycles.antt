@@ -1,5 +1,6 @@
 -- A question in cycles: what is refused, and what is worked out where nothing is. Then the core is one in service, the longest path has at most 4,096 accesses, and the row
 -- has no units at more misses than that. So no number wraps, and what `cycles` works out from a miss budget is what is asked.
+use Rattle.std.specs.Prelude.{Err, Ok}
 use mathlib.Core.Path.{◌≡◌, sym, ap, ◌∙◌}
 use mathlib.Core.Bool.{true, false, ◌||◌, not}
 use mathlib.Core.List.{List}
@@ -14,9 +15,6 @@ use Rattle.rules.specs.declared.Core.{Core}
 use Rattle.rules.specs.declared.State.{State}
 use Rattle.rules.specs.declared.Refusal.{Refusal}
 use Rattle.rules.specs.declared.Refusal.TheVariants.{NoCore, Accesses, Row}
-use Rattle.rules.specs.declared.Verdict.TheVariants.{Accepted, Refused}
-use Rattle.rules.specs.declared.Amount.TheVariants.{Units, Refused as RefusedAmount}
-use Rattle.rules.specs.declared.Time.TheVariants.{Cycles, Refused as RefusedTime}
 use Rattle.rules.specs.Answers.{first, verdict_says}
 use Rattle.rules.specs.Units.{whole, units}
 use Rattle.rules.specs.Table.{total}
@@ -31,30 +29,30 @@ use Rattle.row_questions.proofs.Answered.{row_total}
 
 module _ (row : List ℕ) (k L : ℕ) where
   -- 16
-  pub no_core : length cores ≤ k → first (row_cycle_reasons k L row) ≡ Refused NoCore
+  pub no_core : length cores ≤ k → first (row_cycle_reasons k L row) ≡ Err NoCore
   unfolding row_cycle_reasons
   no_core h = rw (le-ltb k (length cores) h)
 
   module _ (known : k < length cores) where
     -- 4
-    pub long_path : 4096 < L → first (row_cycle_reasons k L row) ≡ Refused Accesses
+    pub long_path : 4096 < L → first (row_cycle_reasons k L row) ≡ Err Accesses
     unfolding row_cycle_reasons
     long_path h = rw (lt-ltb k (length cores) known, lt-ltb 4096 L h)
 
     module _ (few : L ≤ 4096) where
       -- 7
-      by_row : (not (is_row row) || ltb L (largest (states_of row))) ≡ true → first (row_cycle_reasons k L row) ≡ Refused Row
+      by_row : (not (is_row row) || ltb L (largest (states_of row))) ≡ true → first (row_cycle_reasons k L row) ≡ Err Row
       unfolding row_cycle_reasons
       by_row h = rw (lt-ltb k (length cores) known, le-ltb 4096 L few, h)
 
-      pub no_row : is_row row ≡ false → first (row_cycle_reasons k L row) ≡ Refused Row
+      pub no_row : is_row row ≡ false → first (row_cycle_reasons k L row) ≡ Err Row
       no_row h = by_row (rw h)
 
-      pub row_beyond : L < largest (states_of row) → first (row_cycle_reasons k L row) ≡ Refused Row
+      pub row_beyond : L < largest (states_of row) → first (row_cycle_reasons k L row) ≡ Err Row
       row_beyond h = by_row (or_right (not (is_row row)) _ (lt-ltb L (largest (states_of row)) h))
 
       -- none
-      pub cycles_accepted : is_row row ≡ true → largest (states_of row) ≤ L → first (row_cycle_reasons k L row) ≡ Accepted
+      pub cycles_accepted : is_row row ≡ true → largest (states_of row) ≤ L → first (row_cycle_reasons k L row) ≡ Ok tt
       unfolding row_cycle_reasons
       cycles_accepted h l = rw (lt-ltb k (length cores) known, le-ltb 4096 L few, h, le-ltb L (largest (states_of row)) l)
 
@@ -65,7 +63,7 @@ module _ (row : List ℕ) (k L : ℕ) where
     pub is_row_lem : is_row row ≡ true
     pub inside : largest (states_of row) ≤ L
 
-  pub answerable : first (row_cycle_reasons k L row) ≡ Accepted → Answerable
+  pub answerable : first (row_cycle_reasons k L row) ≡ Ok tt → Answerable
   unfolding row_cycle_reasons
   answerable h =
       let (core, (long, (bad, _))) = none_applies (row_cycle_reasons k L row) (ap verdict_says h) in
@@ -76,27 +74,27 @@ module _ (row : List ℕ) (k L : ℕ) where
         inside = ltb-false L (largest (states_of row)) (not_right (not (is_row row)) (ltb L (largest (states_of row))) bad);
       }
 
-  module _ (h : first (row_cycle_reasons k L row) ≡ Accepted) where
-    pub above_cycles_answered : (B u : ℕ) → u ≡ above_cycles (core_at k) L B (states_of row) → Units (units u) ≡ row_above_cycles row k L B
+  module _ (h : first (row_cycle_reasons k L row) ≡ Ok tt) where
+    pub above_cycles_answered : (B u : ℕ) → u ≡ above_cycles (core_at k) L B (states_of row) → Ok (units u) ≡ row_above_cycles row k L B
     unfolding row_above_cycles
     above_cycles_answered B u e = rw (h, e)
 
-    pub cycle_budget_answered : (u B : ℕ) → B ≡ smallest_cycles (core_at k) L u (states_of row) → Cycles B ≡ row_cycle_budget row k L u
+    pub cycle_budget_answered : (u B : ℕ) → B ≡ smallest_cycles (core_at k) L u (states_of row) → Ok B ≡ row_cycle_budget row k L u
     unfolding row_cycle_budget
     cycle_budget_answered u B e = rw (h, e)
 
-  module _ (r : Refusal) (h : first (row_cycle_reasons k L row) ≡ Refused r) where
-    pub above_cycles_refused : (B : ℕ) → RefusedAmount r ≡ row_above_cycles row k L B
+  module _ (r : Refusal) (h : first (row_cycle_reasons k L row) ≡ Err r) where
+    pub above_cycles_refused : (B : ℕ) → Err r ≡ row_above_cycles row k L B
     unfolding row_above_cycles
     above_cycles_refused B = rw h
 
-    pub cycle_budget_refused : (u : ℕ) → RefusedTime r ≡ row_cycle_budget row k L u
+    pub cycle_budget_refused : (u : ℕ) → Err r ≡ row_cycle_budget row k L u
     unfolding row_cycle_budget
     cycle_budget_refused u = rw h
 
 -- ---- where nothing is refused
 
-module _ (row : List ℕ) (k L : ℕ) (accepted : first (row_cycle_reasons k L row) ≡ Accepted) where
+module _ (row : List ℕ) (k L : ℕ) (accepted : first (row_cycle_reasons k L row) ≡ Ok tt) where
   abbrev T : List State
   T = states_of row
 

@@ -4,11 +4,14 @@ use mathlib.Core.Bool.{Bool, true, false, cond}
 use mathlib.Core.List.{List, [], ◌∷◌}
 use Prim.Native.Nat.{ℕ, zero, suc, ◌+◌, ◌-◌, ◌≤◌, ◌<◌, max}
 use native.Mathlib.Nat.{le_refl, max-zero}
+use native.Mathlib.Numerals.{add-one}
 use native.Mathlib.Omega.{arith}
 use borrow.Author.Tests.{eq-eqb, ne_eqb, eqb-true, eqb-false, ltb-true, ltb-false}
 use lib.Dec.{eqb, leb, ltb}
-use lib.ListN.{length, get_or, drop, drop_of_length-le}
-use lib.Seq.{drop-cons, drop-length}
+use lib.ListN.{length, get_or, take, drop, length-drop, drop_of_length-le}
+use lib.Seq.{take_all, drop-cons, drop-length}
+use Rattle.std.specs.Prelude.{sum as sum_of}
+use Rattle.std.proofs.lemmas.List.Sums.{sum_by-cons}
 use Rattle.basics.specs.Sums.{sum_over}
 use Rattle.rules.specs.declared.State.{State}
 use Rattle.rules.specs.Units.{whole}
@@ -112,12 +115,20 @@ module _ (row : List ℕ) (i : ℕ) where
   unfolding states_from largest_of
   last_end last w rest h = sym (max-zero last) ∙ (rw (drop_of_length-le row {i = i} h) at rest)
 
-  -- the sum so far and what is left of the cells behind the budget's
-  pub sum_on_lem : (s w : ℕ) → s + sum (drop i row) ≡ w → i < length row → s + get_or row i 0 + sum (drop (suc i) row) ≡ w
-  sum_on_lem s w rest h = omega (arith, rest, sum_next row i h)
+-- the cells behind the budget's, as they are lent
+module _ (row : List ℕ) where
+  sum_same : (us : List ℕ) → sum_of us ≡ sum us
+  sum_same [] = refl
+  sum_same (u ∷ us) = sum_by-cons (λ n. n) u us ∙ ap (λ n. u + n) (sum_same us)
 
-  pub sum_end : (s w : ℕ) → s + sum (drop i row) ≡ w → length row ≤ i → s ≡ w
-  sum_end s w rest h = omega (arith, rest, ap (sum_over (λ n. n)) (drop_of_length-le row {i = i} h))
+  lent : (n : ℕ) → sum_of (take (length row - n) (drop n row)) ≡ sum (drop n row)
+  lent n = rw (take_all (length row - n) (drop n row) (omega (arith, length-drop n row))) (sum_same (drop n row))
+
+  pub lent_few : (B : ℕ) → sum_of (take (length row - (B + 1)) (drop (B + 1) row)) ≤ sum row
+  lent_few B = rw (lent (B + 1)) (sum_most row (B + 1))
+
+  pub lent_above : (B : ℕ) → sum_of (take (length row - (B + 1)) (drop (B + 1) row)) ≡ above B (states_of row)
+  lent_above B = rw (add-one B) (lent (suc B) ∙ sym (above_row B row))
 
 pub none_above : (row : List ℕ) (B : ℕ) → length row ≤ B → 0 ≡ above B (states_of row)
 none_above row B h = sym (above_row B row ∙ ap (sum_over (λ n. n)) (drop_of_length-le row {i = suc B} (omega arith)))

@@ -1,16 +1,15 @@
 -- Questions put to the second analysis' answer. It is a row of units, and cell m has those at m misses: document 01's questions are put to the states that the row stands for.
-use Rattle.std.specs.Prelude.{Bool, cond, ◌&&◌, ◌||◌, not, List, [], ◌∷◌, ℕ, suc, eqb, leb, ltb, length}
+use Rattle.std.specs.Prelude.{Bool, cond, ◌&&◌, ◌||◌, not, List, [], ◌∷◌, ℕ, suc, eqb, leb, ltb, length, Result}
 use Rattle.basics.specs.Sums.{sum_over}
+use Rattle.rules.specs.declared.Units.{Units}
+use Rattle.rules.specs.declared.Refusal.{Refusal}
 use Rattle.rules.specs.declared.Refusal.TheVariants.{NoCore, Accesses, Row}
-use Rattle.rules.specs.declared.Amount.{Amount}
-use Rattle.rules.specs.declared.Count.{Count}
-use Rattle.rules.specs.declared.Time.{Time}
 use Rattle.rules.specs.declared.State.{State}
-use Rattle.rules.specs.Units.{whole}
-use Rattle.rules.specs.Answers.{Reason, when, first}
+use Rattle.rules.specs.Units.{whole, units}
+use Rattle.rules.specs.Answers.{Reason, when, first, answer_or}
 use Rattle.rules.specs.Table.{state, no_state}
-use Rattle.rules.specs.Questions.{largest, above, smallest_budget, amount_or, count_or}
-use Rattle.rules.specs.Cycles.{cores, core_at, above_cycles, smallest_cycles, time_or}
+use Rattle.rules.specs.Questions.{largest, above, smallest_budget}
+use Rattle.rules.specs.Cycles.{cores, core_at, above_cycles, smallest_cycles}
 
 -- the states of the cells from the one for m misses on: nothing held, so many misses, the cell's units; a cell of 0 units has none
 unfoldable pub states_from : ℕ → List ℕ → List State
@@ -30,16 +29,16 @@ abbrev pub cells_reason : List ℕ → Reason
 cells_reason row = when (not (is_row row)) Row
 
 -- what is answered about the units above B
-unfoldable pub row_above : List ℕ → ℕ → Amount
-row_above row B = amount_or (first (cells_reason row ∷ [])) (above B (states_of row))
+unfoldable pub row_above : List ℕ → ℕ → Result Units Refusal
+row_above row B = answer_or (first (cells_reason row ∷ [])) (units (above B (states_of row)))
 
 -- what is answered about the smallest budget for u units
-unfoldable pub row_budget : List ℕ → ℕ → Count
-row_budget row u = count_or (first (cells_reason row ∷ [])) (smallest_budget u (states_of row))
+unfoldable pub row_budget : List ℕ → ℕ → Result ℕ Refusal
+row_budget row u = answer_or (first (cells_reason row ∷ [])) (smallest_budget u (states_of row))
 
 -- what is answered about the spread: the largest miss count present. The row itself has the units at each count up to there, and nothing beyond it
-unfoldable pub row_spread : List ℕ → Count
-row_spread row = count_or (first (cells_reason row ∷ [])) (largest (states_of row))
+unfoldable pub row_spread : List ℕ → Result ℕ Refusal
+row_spread row = answer_or (first (cells_reason row ∷ [])) (largest (states_of row))
 
 -- ---- in cycles: document 02, request 9/13
 
@@ -52,9 +51,9 @@ row_cycle_reasons k L row =
     ∷ []
 
 -- what is answered about the units above B cycles, on core k, where the longest path has L accesses
-unfoldable pub row_above_cycles : List ℕ → ℕ → ℕ → ℕ → Amount
-row_above_cycles row k L B = amount_or (first (row_cycle_reasons k L row)) (above_cycles (core_at k) L B (states_of row))
+unfoldable pub row_above_cycles : List ℕ → ℕ → ℕ → ℕ → Result Units Refusal
+row_above_cycles row k L B = answer_or (first (row_cycle_reasons k L row)) (units (above_cycles (core_at k) L B (states_of row)))
 
 -- what is answered about the smallest cycle budget for u units
-unfoldable pub row_cycle_budget : List ℕ → ℕ → ℕ → ℕ → Time
-row_cycle_budget row k L u = time_or (first (row_cycle_reasons k L row)) (smallest_cycles (core_at k) L u (states_of row))
+unfoldable pub row_cycle_budget : List ℕ → ℕ → ℕ → ℕ → Result ℕ Refusal
+row_cycle_budget row k L u = answer_or (first (row_cycle_reasons k L row)) (smallest_cycles (core_at k) L u (states_of row))

@@ -1,5 +1,5 @@
 // What is asked of a row of units: whether it is one, the largest miss count, the units above a budget, the smallest budget.
-ghost use Rattle.std.specs.Prelude.{◌≡◌, cond, ◌≤◌, eqb};
+ghost use Rattle.std.specs.Prelude.{◌≡◌, cond, ◌≤◌, eqb, sum};
 ghost use Rattle.basics.specs.Sums.{sum_over};
 ghost use Rattle.rules.specs.Units.{whole};
 ghost use Rattle.rules.specs.Questions.{largest, above, smallest_budget};
@@ -13,13 +13,11 @@ fn is_whole(row: &[u64]) -> bool
 {
     let whole = Units::WHOLE;
     let mut left = whole.0;
-    let mut i: usize = 0;
-    while i < row.len() {
-        if left < row[i] {
+    for units in row {
+        if left < *units {
             return false;
         }
-        left -= row[i];
-        i += 1;
+        left -= *units;
     }
     left == 0
 }
@@ -52,12 +50,18 @@ pub(crate) fn largest(row: &[u64]) -> u64
     ensures { result ≡ largest (states_of row.now) }
 {
     let mut last: u64 = 0;
-    let mut i: usize = 0;
-    while i < row.len() {
-        last = last_of(last, i as u64, row[i]);
-        i += 1;
+    for (i, units) in row.iter().enumerate() {
+        last = last_of(last, i as u64, *units);
     }
     last
+}
+
+// The units of some cells.
+fn units_in(cells: &[u64]) -> u64
+    requires { sum cells.now ≤ whole }
+    ensures { result ≡ sum cells.now }
+{
+    cells.iter().sum()
 }
 
 // The units above `budget`.
@@ -68,13 +72,7 @@ pub(crate) fn units_above(row: &[u64], budget: u64) -> u64
     if row.len() as u64 <= budget {
         return 0;
     }
-    let mut sum: u64 = 0;
-    let mut i: usize = budget as usize + 1;
-    while i < row.len() {
-        sum += row[i];
-        i += 1;
-    }
-    sum
+    units_in(&row[budget as usize + 1..])
 }
 
 // The smallest budget whose units above are at most `units`: from the top, up to the cell that passes what is left of them.
@@ -82,13 +80,11 @@ pub(crate) fn smallest(row: &[u64], units: u64) -> u64
     ensures { result ≡ smallest_budget units (states_of row.now) }
 {
     let mut left = units;
-    let mut end = row.len();
-    while 0 < end {
-        if left < row[end - 1] {
-            return (end - 1) as u64;
+    for at in (0..row.len()).rev() {
+        if left < row[at] {
+            return at as u64;
         }
-        left -= row[end - 1];
-        end -= 1;
+        left -= row[at];
     }
     0
 }

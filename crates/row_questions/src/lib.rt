@@ -7,57 +7,63 @@ ghost use Rattle.row_questions.specs.Row.{row_above, row_budget, row_spread, row
 
 use crate::cells::{is_row, largest, smallest, units_above};
 use crate::cycles::{fewest_cycles, judged, units_above_cycles};
-use rules::{Amount, Count, Refusal, Time, Units, Verdict};
+use rules::{Refusal, Units};
 
 mod cells;
 mod cycles;
 
 // The units above a budget: misses strictly greater.
-pub fn row_above(row: &[u64], budget: u64) -> Amount
+pub fn row_above(row: &[u64], budget: u64) -> Result<Units, Refusal>
     ensures { result ≡ row_above row.now budget }
 {
     if is_row(row) {
-        return Amount::Units(Units(units_above(row, budget)));
+        return Ok(Units(units_above(row, budget)));
     }
-    Amount::Refused(Refusal::Row)
+    Err(Refusal::Row)
 }
 
 // The smallest budget whose units above are at most `units`.
-pub fn row_smallest_budget(row: &[u64], units: u64) -> Count
+pub fn row_smallest_budget(row: &[u64], units: u64) -> Result<u64, Refusal>
     ensures { result ≡ row_budget row.now units }
 {
     if is_row(row) {
-        return Count::Misses(smallest(row, units));
+        return Ok(smallest(row, units));
     }
-    Count::Refused(Refusal::Row)
+    Err(Refusal::Row)
 }
 
 // The spread is the row up to the largest miss count present, which is the answer.
-pub fn row_spread(row: &[u64]) -> Count
+pub fn row_spread(row: &[u64]) -> Result<u64, Refusal>
     ensures { result ≡ row_spread row.now }
 {
     if is_row(row) {
-        return Count::Misses(largest(row));
+        return Ok(largest(row));
     }
-    Count::Refused(Refusal::Row)
+    Err(Refusal::Row)
 }
 
 // The units above a cycle budget, on the core of that number, where the longest path has `longest` accesses.
-pub fn row_above_cycles(row: &[u64], core: usize, longest: u64, budget: u64) -> Amount
+pub fn row_above_cycles(
+    row: &[u64],
+    core: usize,
+    longest: u64,
+    budget: u64,
+) -> Result<Units, Refusal>
     ensures { result ≡ row_above_cycles row.now core longest budget }
 {
-    match judged(row, core, longest) {
-        Verdict::Accepted => Amount::Units(Units(units_above_cycles(row, core, longest, budget))),
-        Verdict::Refused(reason) => Amount::Refused(reason),
-    }
+    judged(row, core, longest)?;
+    Ok(Units(units_above_cycles(row, core, longest, budget)))
 }
 
 // The smallest cycle budget whose units above are at most `units`, on that core.
-pub fn row_smallest_cycles(row: &[u64], core: usize, longest: u64, units: u64) -> Time
+pub fn row_smallest_cycles(
+    row: &[u64],
+    core: usize,
+    longest: u64,
+    units: u64,
+) -> Result<u64, Refusal>
     ensures { result ≡ row_cycle_budget row.now core longest units }
 {
-    match judged(row, core, longest) {
-        Verdict::Accepted => Time::Cycles(fewest_cycles(row, core, longest, units)),
-        Verdict::Refused(reason) => Time::Refused(reason),
-    }
+    judged(row, core, longest)?;
+    Ok(fewest_cycles(row, core, longest, units))
 }

@@ -1,5 +1,6 @@
 -- A row that is copied state by state, 65 at most, is asked as the row itself: a row of more is no table, and its first 65 states are
 -- none either. What is copied is said once for both kinds of state.
+use Rattle.std.specs.Prelude.{Err}
 use mathlib.Core.Path.{◌≡◌, refl, sym, ap, ◌∙◌}
 use mathlib.Core.Bool.{Bool, true, false, cond, not}
 use mathlib.Core.List.{List, [], ◌∷◌, ◌++◌, append-nil, append_assoc}
@@ -14,8 +15,7 @@ use Rattle.rules.specs.declared.BestState.{BestState}
 use Rattle.rules.specs.declared.Refusal.{Refusal}
 use Rattle.rules.specs.declared.Refusal.TheVariants.{NoCore, Accesses, Row}
 use Rattle.rules.specs.declared.State.{State}
-use Rattle.rules.specs.declared.Verdict.TheVariants.{Refused}
-use Rattle.rules.specs.Answers.{first}
+use Rattle.rules.specs.Answers.{first, Verdict}
 use Rattle.rules.specs.Questions.{is_table, above_answer, budget_answer, spread_answer}
 use Rattle.rules.specs.BestQuestions.{is_best_table, miss_spread_answer, hit_spread_answer}
 use Rattle.rules.specs.Cycles.{cores, cycle_reasons, above_cycles_answer, cycle_budget_answer}
@@ -114,11 +114,11 @@ spread_copied row room = alike (λ T. spread_answer T room) _ (λ T h. spread_re
 abbrev unread : ℕ → ℕ → Refusal
 unread k L = cond (ltb k (length cores)) (cond (ltb 4096 L) Accesses Row) NoCore
 
-cycles_refused : (k L : ℕ) (T : List State) → is_table T ≡ false → first (cycle_reasons k L T) ≡ Refused (unread k L)
+cycles_refused : (k L : ℕ) (T : List State) → is_table T ≡ false → first (cycle_reasons k L T) ≡ Err (unread k L)
 unfolding cycle_reasons
 cycles_refused k L T h = rw h (go (ltb k (length cores)) (ltb 4096 L))
   where
-    go : (a b : Bool) → cond (not a) (Refused NoCore) (cond b (Refused Accesses) (Refused Row)) ≡ Refused (cond a (cond b Accesses Row) NoCore)
+    go : (a b : Bool) → ◌≡◌ {A = Verdict} (cond (not a) (Err NoCore) (cond b (Err Accesses) (Err Row))) (Err (cond a (cond b Accesses Row) NoCore))
     go true true = refl
     go true false = refl
     go false b = refl

@@ -5,7 +5,7 @@ ghost use Rattle.rows.specs.Rows.{best_states, one_more, copied, states_of};
 
 use crate::row::{Held, nothing};
 use best_questions::{hit_spread_in, miss_spread_in};
-use rules::{BestState, HitCount, MissCount};
+use rules::{BestState, Hits, Misses, Refusal};
 use words::flag;
 
 // One state more; where there is no room for it, the row is no table whatever follows.
@@ -36,16 +36,14 @@ pub(crate) fn copy_best(row: &[BestState]) -> Held
     ensures { result ≡ copied best_states row.now }
 {
     let mut held = nothing();
-    let mut i = 0;
-    while i < row.len() {
-        held = hold_best(held, row[i]);
-        i = i + 1;
+    for s in row {
+        held = hold_best(held, *s);
     }
     held
 }
 
 // What is held is asked the spread of misses.
-pub(crate) fn miss_spread_held(held: Held, room: &mut [u64]) -> MissCount
+pub(crate) fn miss_spread_held(held: Held, room: &mut [u64]) -> Result<Misses, Refusal>
     ensures { record { answer = result; room = room.new } ≡ miss_spread_answer (states_of best_states held) room.old }
 {
     let words = held.words;
@@ -53,7 +51,7 @@ pub(crate) fn miss_spread_held(held: Held, room: &mut [u64]) -> MissCount
 }
 
 // The spread of hits.
-pub(crate) fn hit_spread_held(held: Held, room: &mut [u64]) -> HitCount
+pub(crate) fn hit_spread_held(held: Held, room: &mut [u64]) -> Result<Hits, Refusal>
     ensures { record { answer = result; room = room.new } ≡ hit_spread_answer (states_of best_states held) room.old }
 {
     let words = held.words;

@@ -5,7 +5,7 @@ ghost use Rattle.rules.specs.Cycles.{above_cycles_answer, cycle_budget_answer};
 ghost use Rattle.rows.specs.Rows.{states, nothing_held, one_more, copied, states_of};
 
 use questions::{above_cycles_in, above_in, smallest_budget_in, smallest_cycles_in, spread_in};
-use rules::{Amount, Count, State, Time};
+use rules::{Refusal, State, Units};
 
 // The first states of a row, 65 at most: one more than a table has.
 #[derive(Clone, Copy)]
@@ -49,16 +49,14 @@ pub(crate) fn copy(row: &[State]) -> Held
     ensures { result ≡ copied states row.now }
 {
     let mut held = nothing();
-    let mut i = 0;
-    while i < row.len() {
-        held = hold(held, row[i]);
-        i = i + 1;
+    for s in row {
+        held = hold(held, *s);
     }
     held
 }
 
 // What is held is asked the units above a budget.
-pub(crate) fn above_held(held: Held, budget: u64) -> Amount
+pub(crate) fn above_held(held: Held, budget: u64) -> Result<Units, Refusal>
     ensures { result ≡ above_answer (states_of states held) budget }
 {
     let words = held.words;
@@ -66,7 +64,7 @@ pub(crate) fn above_held(held: Held, budget: u64) -> Amount
 }
 
 // The smallest budget.
-pub(crate) fn budget_held(held: Held, units: u64) -> Count
+pub(crate) fn budget_held(held: Held, units: u64) -> Result<u64, Refusal>
     ensures { result ≡ budget_answer (states_of states held) units }
 {
     let words = held.words;
@@ -74,7 +72,7 @@ pub(crate) fn budget_held(held: Held, units: u64) -> Count
 }
 
 // The spread.
-pub(crate) fn spread_held(held: Held, room: &mut [u64]) -> Count
+pub(crate) fn spread_held(held: Held, room: &mut [u64]) -> Result<u64, Refusal>
     ensures { record { answer = result; room = room.new } ≡ spread_answer (states_of states held) room.old }
 {
     let words = held.words;
@@ -82,7 +80,12 @@ pub(crate) fn spread_held(held: Held, room: &mut [u64]) -> Count
 }
 
 // The units above a cycle budget.
-pub(crate) fn above_cycles_held(held: Held, core: usize, longest: u64, budget: u64) -> Amount
+pub(crate) fn above_cycles_held(
+    held: Held,
+    core: usize,
+    longest: u64,
+    budget: u64,
+) -> Result<Units, Refusal>
     ensures { result ≡ above_cycles_answer (states_of states held) core longest budget }
 {
     let words = held.words;
@@ -90,7 +93,12 @@ pub(crate) fn above_cycles_held(held: Held, core: usize, longest: u64, budget: u
 }
 
 // The smallest cycle budget.
-pub(crate) fn cycle_budget_held(held: Held, core: usize, longest: u64, units: u64) -> Time
+pub(crate) fn cycle_budget_held(
+    held: Held,
+    core: usize,
+    longest: u64,
+    units: u64,
+) -> Result<u64, Refusal>
     ensures { result ≡ cycle_budget_answer (states_of states held) core longest units }
 {
     let words = held.words;

@@ -1,5 +1,6 @@
 -- The work on tables of any kind: what a fold of any two places and a join by any pairing that uses each state's units exactly do to the worth of a table;
 -- that folds end at K states; and that every table of the work is one, at every node: rising, at most K states, each in shape, units totalling WHOLE.
+use Rattle.std.specs.Prelude.{Some}
 use mathlib.Core.Path.{◌≡◌, refl, sym, ap, ◌∙◌}
 use mathlib.Core.Logic.{◌≢◌, ◌⊎◌, inl, inr}
 use mathlib.Core.Bool.{Bool, true, false, cond, ◌&&◌}
@@ -15,7 +16,7 @@ use Rattle.basics.specs.Sums.{sum_over}
 use Rattle.basics.proofs.Sums.{sum_append, sum_map}
 use Rattle.rules.specs.declared.Pair.{Pair}
 use Rattle.rules.specs.Units.{whole, more}
-use Rattle.rules.specs.Contents.{Target, Last, block, among, target_of}
+use Rattle.rules.specs.Contents.{Target, Last, among, target_of}
 use Rattle.rules.specs.Input.{Input, nodes, offset, run_of, edges_of, predecessors, joins_to}
 use Rattle.rules.specs.Ordered.{remove, best}
 use Rattle.rules.specs.AnyTable.{Listing, Match, plus, total, at, from_front, Work, Kind, access, fewer, choice, fold_at, fold, folds_of, folded, advance, run, matched, paired, join, join_by, Entry, no_pairing, pairing, fits, Worked, table_at, Entries, later, behind, join_one, join_all_by, enter_by, node_by, worked_by, finished_by, entry_fits, joins_fit}
@@ -371,7 +372,7 @@ module _ {A : Type 0} {k : Kind A} {N : ℕ} {X : Target → Type 0} {P : ℕ �
     sound_run Z ts aims M p [] w t = rw (zero-add M) t
     sound_run Z ts aims M p (b ∷ bs) w t =
         rw (suc-add (length bs) M, ← add-suc (length bs) M)
-        (sound_run Z ts aims (suc M) (block b) bs (advance k N K (target_of Z ts p b) w) (sound_advance M (target_of Z ts p b) w (aims p b) t))
+        (sound_run Z ts aims (suc M) (Some b) bs (advance k N K (target_of Z ts p b) w) (sound_advance M (target_of Z ts p b) w (aims p b) t))
 
 -- ---- the nodes that are worked
 

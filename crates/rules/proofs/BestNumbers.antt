@@ -9,7 +9,7 @@ use Prim.Native.Nat.{ℕ, ◌^◌}
 use lib.ListN.{length}
 use Rattle.rules.specs.declared.Cache.{Cache}
 use Rattle.rules.specs.Units.{whole, more}
-use Rattle.rules.specs.Answers.{AnswerSays, best_says}
+use Rattle.rules.specs.Answers.{AnswerSays, number_says}
 use Rattle.rules.specs.Contents.{places, find, bit, with, without, shared, held_below, held, size, mask_of, of_set, last_after, target_of}
 use Rattle.rules.specs.Input.{cold, Input, cache, input_in, input_of, offset, run_of, predecessors}
 use Rattle.rules.specs.Lasts.{agree_all, last_before, node_last, lasts_to}
@@ -29,7 +29,7 @@ comes i T = record { input = i; states = T; said = record { number = 0; value = 
 
 -- what the definitions make of a case's input
 pub worked_out : Case → Case
-worked_out c = record { input = c.input; states = best_table c.input; said = best_says (best_outcome c.input) }
+worked_out c = record { input = c.input; states = best_table c.input; said = number_says (best_outcome c.input) }
 
 -- blocks a, b, c, tracked as bits 0, 1, 2; one set unless said
 abbrev a : ℕ
@@ -100,7 +100,7 @@ abbrev says : Input → ℕ → Refused
 says i n = record { input = i; number = n }
 
 pub answered : Refused → Refused
-answered r = says r.input (best_says (best_outcome r.input)).number
+answered r = says r.input (number_says (best_outcome r.input)).number
 
 -- revision v, N ways, Z sets, at most K states, the tracked blocks a and b, the accesses bs of one node, room for r states
 abbrev small : ℕ → ℕ → ℕ → ℕ → List ℕ → ℕ → Input

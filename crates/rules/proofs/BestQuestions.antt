@@ -1,4 +1,5 @@
 -- What the best case's work finishes is accepted as a table; a row that is none is refused; and the spread of misses or of hits up to a number and the units above it make the total.
+use Rattle.std.specs.Prelude.{Err}
 use mathlib.Core.Path.{◌≡◌, refl}
 use mathlib.Core.Bool.{Bool, true, false, ◌||◌, ◌&&◌}
 use mathlib.Core.List.{List, [], ◌∷◌}
@@ -11,10 +12,8 @@ use borrow.Author.Tests.{le-leb, lt-leb, eq-eqb}
 use Rattle.basics.specs.Sums.{sum_over}
 use Rattle.basics.proofs.Bools.{both}
 use Rattle.rules.specs.declared.Refusal.TheVariants.{Row}
-use Rattle.rules.specs.declared.MissCount.TheVariants.{Refused as RefusedMisses}
-use Rattle.rules.specs.declared.HitCount.TheVariants.{Refused as RefusedHits}
 use Rattle.rules.specs.Units.{whole}
-use Rattle.rules.specs.Answers.{best_says}
+use Rattle.rules.specs.Answers.{number_says}
 use Rattle.rules.specs.Input.{Input}
 use Rattle.rules.specs.Ordered.{rises}
 use Rattle.rules.specs.AnyTable.{total, no_pairings}
@@ -58,10 +57,10 @@ best_sound i ok =
     finished_sound no_pairings i c (best_follow i.ways i.sets i.tracked c.some_ways c.few_ways) (best_start i.ways i.sets i.tracked c.few_ways)
     (aimed i.sets i.tracked c.some_sets c.few_sets)
 
-pub best_whole : (i : Input) → (best_says (best_outcome i)).number ≡ 0 → total listing (best_table i) ≡ whole
+pub best_whole : (i : Input) → (number_says (best_outcome i)).number ≡ 0 → total listing (best_table i) ≡ whole
 best_whole i h = (best_sound i (best_accepted i h)).full
 
-pub best_is_table : (i : Input) → (best_says (best_outcome i)).number ≡ 0 → is_best_table (best_table i) ≡ true
+pub best_is_table : (i : Input) → (number_says (best_outcome i)).number ≡ 0 → is_best_table (best_table i) ≡ true
 unfolding is_best_table total
 best_is_table i h =
     let ok = best_accepted i h in
@@ -93,11 +92,11 @@ no_best_table T l = rw (lt-leb (length T) 64 l) (none (leb 1 (length T)))
     none false = refl
 
 module _ (T : List BestState) (no : is_best_table T ≡ false) (room : List ℕ) where
-  pub miss_spread_refused : record { answer = RefusedMisses Row; room = room } ≡ miss_spread_answer T room
+  pub miss_spread_refused : record { answer = Err Row; room = room } ≡ miss_spread_answer T room
   unfolding miss_spread_answer
   miss_spread_refused = rw no
 
-  pub hit_spread_refused : record { answer = RefusedHits Row; room = room } ≡ hit_spread_answer T room
+  pub hit_spread_refused : record { answer = Err Row; room = room } ≡ hit_spread_answer T room
   unfolding hit_spread_answer
   hit_spread_refused = rw no
 

@@ -1,5 +1,6 @@
 -- What is handed in for the joins, told in numbers: where the entries have the form each pairing's rows stand among the rows; the verdict with them is that
 -- without, and then 19; and no numbers at all are none everywhere.
+use Rattle.std.specs.Prelude.{Err, Ok}
 use mathlib.Core.Path.{◌≡◌, refl, sym, ap, ◌∙◌, subst}
 use mathlib.Core.Bool.{Bool, true, false, cond, ◌||◌, ◌&&◌, not, true≢false}
 use mathlib.Core.List.{List, [], ◌∷◌, ◌++◌}
@@ -11,9 +12,7 @@ use borrow.Author.Tests.{eqb-true, leb-true}
 use Rattle.basics.proofs.Bools.{and_left, and_right}
 use Rattle.rules.specs.declared.Refusal.{Refusal}
 use Rattle.rules.specs.declared.Refusal.TheVariants.{Pairing}
-use Rattle.rules.specs.declared.Verdict.{Verdict}
-use Rattle.rules.specs.declared.Verdict.TheVariants.{Accepted, Refused}
-use Rattle.rules.specs.Answers.{number_of, Reason, first, verdict_says, outcome_says}
+use Rattle.rules.specs.Answers.{number_of, Reason, first, verdict_says, outcome_says, Verdict}
 use Rattle.rules.specs.Input.{Input}
 use Rattle.rules.specs.AnyTable.{no_pairings}
 use Rattle.rules.specs.Shape.{Every}
@@ -61,15 +60,15 @@ rows_few (n ∷ ns) (suc m) l h e = rows_few ns m (omega arith) (and_right (eqb 
 
 -- one reason more, behind others
 abbrev further : Verdict → Reason → Verdict
-further Accepted r = cond r.applies (Refused r.gives) Accepted
-further (Refused x) r = Refused x
+further (Ok tt) r = cond r.applies (Err r.gives) (Ok tt)
+further (Err x) r = Err x
 
 first_further : (rs : List Reason) (r : Reason) → first (rs ++ (r ∷ [])) ≡ further (first rs) r
 first_further [] r = refl
 first_further (x ∷ rs) r = go x.applies (first_further rs r)
   where
     go : (b : Bool) → first (rs ++ (r ∷ [])) ≡ further (first rs) r
-        → cond b (Refused x.gives) (first (rs ++ (r ∷ []))) ≡ further (cond b (Refused x.gives) (first rs)) r
+        → cond b (Err x.gives) (first (rs ++ (r ∷ []))) ≡ further (cond b (Err x.gives) (first rs)) r
     go true ih = refl
     go false ih = ih
 
@@ -79,17 +78,17 @@ module _ (i : Input) (ns rs : List ℕ) where
   then_paired = first_further (reasons i) (pairing_reason i ns rs)
 
   -- where the graph call refuses, so does the call with pairings
-  pub paired_refused : (r : Refusal) → verdict i ≡ Refused r → paired_verdict i ns rs ≡ Refused r
+  pub paired_refused : (r : Refusal) → verdict i ≡ Err r → paired_verdict i ns rs ≡ Err r
   paired_refused r e = then_paired ∙ ap (λ (v : Verdict). further v (pairing_reason i ns rs)) e
 
   -- where it accepts, all hangs on the entries
-  pub paired_judged : (b : Bool) → verdict i ≡ Accepted → entries_fit i ns rs ≡ b → paired_verdict i ns rs ≡ cond b Accepted (Refused Pairing)
+  pub paired_judged : (b : Bool) → verdict i ≡ Ok tt → entries_fit i ns rs ≡ b → paired_verdict i ns rs ≡ cond b (Ok tt) (Err Pairing)
   paired_judged b e f = then_paired ∙ ap (λ (v : Verdict). further v (pairing_reason i ns rs)) e ∙ ap turned f ∙ told b
     where
       turned : Bool → Verdict
-      turned b = cond (not b) (Refused Pairing) Accepted
+      turned b = cond (not b) (Err Pairing) (Ok tt)
 
-      told : (b : Bool) → turned b ≡ cond b Accepted (Refused Pairing)
+      told : (b : Bool) → turned b ≡ cond b (Ok tt) (Err Pairing)
       told true = refl
       told false = refl
 
@@ -100,26 +99,26 @@ module _ (i : Input) (ns rs : List ℕ) where
     where
       go : (v : Verdict) (b : Bool) → (outcome_says (paired_answered (further v (record { applies = not b; gives = Pairing })) i (entry_of ns rs))).number ≡ 0
           → ((outcome_says (answered v i)).number ≡ 0) × (b ≡ true)
-      go Accepted true h = (refl, refl)
-      go Accepted false h = absurd (numbered Pairing h)
-      go (Refused r) b h = absurd (numbered r h)
+      go (Ok tt) true h = (refl, refl)
+      go (Ok tt) false h = absurd (numbered Pairing h)
+      go (Err r) b h = absurd (numbered r h)
 
 -- ---- a refusal before any work is never 19
 
 -- what is so of each refusal that is given is so of the first
-first_given : (P : Refusal → Type 0) (rs : List Reason) (r : Refusal) → Every (λ x. P x.gives) rs → first rs ≡ Refused r → P r
+first_given : (P : Refusal → Type 0) (rs : List Reason) (r : Refusal) → Every (λ x. P x.gives) rs → first rs ≡ Err r → P r
 first_given P [] r h e = absurd (numbered r (sym (ap verdict_says e)))
 first_given P (x ∷ rs) r h e = go x.applies e (first_given P rs r h.1)
   where
     why : Verdict → Refusal
-    why Accepted = r
-    why (Refused y) = y
+    why (Ok tt) = r
+    why (Err y) = y
 
-    go : (b : Bool) → cond b (Refused x.gives) (first rs) ≡ Refused r → (first rs ≡ Refused r → P r) → P r
+    go : (b : Bool) → cond b (Err x.gives) (first rs) ≡ Err r → (first rs ≡ Err r → P r) → P r
     go true e rest = subst P (ap why e) h.0
     go false e rest = rest e
 
-pub never_nineteen : (i : Input) (r : Refusal) → verdict i ≡ Refused r → eqb (number_of r) 19 ≡ false
+pub never_nineteen : (i : Input) (r : Refusal) → verdict i ≡ Err r → eqb (number_of r) 19 ≡ false
 unfolding verdict reasons
 never_nineteen i r e = first_given (λ r. eqb (number_of r) 19 ≡ false) (reasons i) r (refl, (refl, (refl, (refl, (refl, (refl, (refl, (refl, tt)))))))) e
 

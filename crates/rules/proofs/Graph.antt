@@ -1,5 +1,6 @@
 -- Every node's table is a table: for an accepted input, by induction over the nodes (Nodes, AnyTable). The finished table is one, of as many misses as
 -- there are accesses at most, so that the questions accept it. And the set-aside count has not passed WHOLE.
+use Rattle.std.specs.Prelude.{None, Some}
 use mathlib.Core.Path.{◌≡◌, refl, sym, ap, ◌∙◌}
 use mathlib.Core.Bool.{Bool, true, false, cond, true≢false}
 use mathlib.Core.List.{List, [], ◌∷◌, ◌++◌}
@@ -12,7 +13,7 @@ use lib.ListN.{length, get_or, length-append, get_or-append}
 use lib.Seq.{get_or_at}
 use borrow.Author.Tests.{eqb-true}
 use Rattle.rules.specs.Units.{whole}
-use Rattle.rules.specs.Contents.{Last, block, unknown, agreed, among, target_of}
+use Rattle.rules.specs.Contents.{Last, agreed, among, target_of}
 use Rattle.rules.specs.Input.{Input, nodes, offset, run_of, edges_of, predecessors, joins_to}
 use Rattle.rules.specs.Filling.{Filled, filled_at}
 use Rattle.rules.specs.AnyTable.{Entries, later, behind, join_all_by as join_all_of, enter_by as enter_of, run as run_of_any, node_by as node_of, worked_by as worked_of}
@@ -55,9 +56,9 @@ last_stays i zero j l = absurd (not-suc-le-zero l)
 last_stays i (suc n) j l = go (eq-or-lt_of_le (le_of_suc-le-suc l)) (last_stays i n j)
   where
     go : (j ≡ n) ⊎ (j < n) → (j < n → last_at (lasts_to i n) j ≡ last_of i j)
-        → get_or (lasts_to i n ++ (last_of i n ∷ [])) j unknown ≡ last_of i j
-    go (inl e) ih = rw e (get_or_at (lasts_to i n) (last_of i n) [] unknown n (length_lasts i n))
-    go (inr k) ih = get_or-append (lasts_to i n) (last_of i n ∷ []) unknown j (omega (arith, length_lasts i n)) ∙ ih k
+        → get_or (lasts_to i n ++ (last_of i n ∷ [])) j None ≡ last_of i j
+    go (inl e) ih = rw e (get_or_at (lasts_to i n) (last_of i n) [] None n (length_lasts i n))
+    go (inr k) ih = get_or-append (lasts_to i n) (last_of i n ∷ []) None j (omega (arith, length_lasts i n)) ∙ ih k
 
 pub finished_table : (q : Entries) (i : Input) → 0 < nodes i → (finished_by q i).table ≡ node_table q i (nodes i - 1)
 finished_table q i h = finished_table_any states q i h
@@ -73,7 +74,7 @@ module _ (N Z : ℕ) (ts : List ℕ) (K : ℕ) (some : 0 < N) (few : N ≤ 16) (
 
 -- k says no more than l: nothing, or the same
 abbrev pub Vaguer : Last → Last → Type 0
-Vaguer k l = (k ≡ unknown) ⊎ (k ≡ l)
+Vaguer k l = (k ≡ None) ⊎ (k ≡ l)
 
 pub vaguer_trans : (j k l : Last) → Vaguer j k → Vaguer k l → Vaguer j l
 vaguer_trans j k l (inl e) q = inl e
@@ -81,13 +82,13 @@ vaguer_trans j k l (inr e) (inl q) = inl (e ∙ q)
 vaguer_trans j k l (inr e) (inr q) = inr (e ∙ q)
 
 vaguer_both : (k l : Last) → Vaguer (agreed k l) k × Vaguer (agreed k l) l
-vaguer_both (block a) (block b) = go (eqb b a) refl
+vaguer_both (Some a) (Some b) = go (eqb b a) refl
   where
-    go : (t : Bool) → eqb b a ≡ t → Vaguer (cond t (block a) unknown) (block a) × Vaguer (cond t (block a) unknown) (block b)
-    go true e = (inr refl, inr (ap block (sym (eqb-true b a e))))
+    go : (t : Bool) → eqb b a ≡ t → Vaguer (cond t (Some a) None) (Some a) × Vaguer (cond t (Some a) None) (Some b)
+    go true e = (inr refl, inr (ap Some (sym (eqb-true b a e))))
     go false e = (inl refl, inl refl)
-vaguer_both (block a) unknown = (inl refl, inl refl)
-vaguer_both unknown l = (inl refl, inl refl)
+vaguer_both (Some a) None = (inl refl, inl refl)
+vaguer_both None l = (inl refl, inl refl)
 
 module _ (ls : List Last) where
   agree_all_lem : (is : List ℕ) (l : Last) → Vaguer (agree_all ls is l) l × ((j : ℕ) → among is j ≡ true → Vaguer (agree_all ls is l) (last_at ls j))
@@ -125,7 +126,7 @@ aside_run : (N Z K : ℕ) (ts : List ℕ) (l : Last) (bs : List ℕ) (w : Work) 
     → (run N Z K ts l bs w).aside ≤ whole
 unfolding run_of_any
 aside_run N Z K ts l [] w h = h
-aside_run N Z K ts l (b ∷ bs) w h = aside_run N Z K ts (block b) bs _ (advance_aside N K (target_of Z ts l b) w)
+aside_run N Z K ts l (b ∷ bs) w h = aside_run N Z K ts (Some b) bs _ (advance_aside N K (target_of Z ts l b) w)
 
 pub aside_worked : (q : Entries) (i : Input) (n : ℕ) → (worked_by q i n).aside ≤ whole
 unfolding worked_of node_of

@@ -1,6 +1,7 @@
 -- The questions, and how their answers stand to each other: no unit is above the largest miss count, and the units above a budget fall as
 -- it grows, so that a smallest budget exists; it serves, and none below it does. The spread up to a budget and the units above it make
 -- the total. What the work finishes is accepted as a table.
+use Rattle.std.specs.Prelude.{Err, Ok}
 use mathlib.Core.Path.{◌≡◌, refl, sym, ap, ◌∙◌}
 use mathlib.Core.Logic.{◌⊎◌, inl, inr}
 use mathlib.Core.Bool.{Bool, true, false, cond, ◌&&◌, true≢false}
@@ -15,8 +16,6 @@ use borrow.Author.Tests.{leb-true, leb-false, eqb-true, lt-ltb, le-ltb, le-leb, 
 use Rattle.basics.specs.Sums.{sum_over}
 use Rattle.basics.proofs.Bools.{and_left, and_right, both}
 use Rattle.rules.specs.declared.Refusal.TheVariants.{Row, SpreadRoom}
-use Rattle.rules.specs.declared.Amount.TheVariants.{Units, Refused as RefusedAmount}
-use Rattle.rules.specs.declared.Count.TheVariants.{Misses, Refused as RefusedCount}
 use Rattle.rules.specs.Units.{whole, units}
 use Rattle.rules.specs.Answers.{outcome_says, amount_says}
 use Rattle.rules.specs.Input.{Input, nodes}
@@ -230,7 +229,7 @@ no_table T l = rw (lt-leb (length T) 64 l) (none (leb 1 (length T)))
     none false = refl
 
 module _ (T : List State) where
-  pub above_answered : is_table T ≡ true → (B u : ℕ) → u ≡ above B T → Units (units u) ≡ above_answer T B
+  pub above_answered : is_table T ≡ true → (B u : ℕ) → u ≡ above B T → Ok (units u) ≡ above_answer T B
   unfolding above_answer
   above_answered h B u e = rw (h, e)
 
@@ -238,35 +237,35 @@ module _ (T : List State) where
   pub above_says : is_table T ≡ true → (B : ℕ) → amount_says (above_answer T B) ≡ record { number = 0; value = above B T }
   above_says h B = ap amount_says (sym (above_answered h B (above B T) refl))
 
-  pub budget_answered : is_table T ≡ true → (u B : ℕ) → B ≡ smallest_budget u T → Misses B ≡ budget_answer T u
+  pub budget_answered : is_table T ≡ true → (u B : ℕ) → B ≡ smallest_budget u T → Ok B ≡ budget_answer T u
   unfolding budget_answer
   budget_answered h u B e = rw (h, e)
 
   -- the whole room is what stands at each miss count that it has a place for
   pub spread_answered : is_table T ≡ true → (room : List ℕ) → largest T < length room → (m : ℕ) → m ≡ largest T → (ns : List ℕ)
-      → ns ≡ counts_below (length room) T → record { answer = Misses m; room = ns } ≡ spread_answer T room
+      → ns ≡ counts_below (length room) T → record { answer = Ok m; room = ns } ≡ spread_answer T room
   unfolding spread_answer spread_of
   spread_answered h room l m e ns f =
       let long : length room ≡ length room - suc (largest T) + suc (largest T) = omega arith in
       rw (h, le-ltb (length room) (suc (largest T)) l, e)
-      (ap (λ (ns : List ℕ). record { answer = Misses (largest T); room = ns })
+      (ap (λ (ns : List ℕ). record { answer = Ok (largest T); room = ns })
       (f ∙ ap (λ (n : ℕ). counts_below n T) long ∙ counts_beyond (length room - suc (largest T)) (suc (largest T)) T (le_refl (suc (largest T)))))
 
   -- 8
-  pub spread_short : is_table T ≡ true → (room : List ℕ) → length room ≤ largest T → record { answer = RefusedCount SpreadRoom; room = room } ≡ spread_answer T room
+  pub spread_short : is_table T ≡ true → (room : List ℕ) → length room ≤ largest T → record { answer = Err SpreadRoom; room = room } ≡ spread_answer T room
   unfolding spread_answer
   spread_short h room l = rw (h, lt-ltb (length room) (suc (largest T)) (omega arith))
 
   -- 7
   module _ (no : is_table T ≡ false) where
-    pub above_refused : (B : ℕ) → RefusedAmount Row ≡ above_answer T B
+    pub above_refused : (B : ℕ) → Err Row ≡ above_answer T B
     unfolding above_answer
     above_refused B = rw no
 
-    pub budget_refused : (u : ℕ) → RefusedCount Row ≡ budget_answer T u
+    pub budget_refused : (u : ℕ) → Err Row ≡ budget_answer T u
     unfolding budget_answer
     budget_refused u = rw no
 
-    pub spread_refused : (room : List ℕ) → record { answer = RefusedCount Row; room = room } ≡ spread_answer T room
+    pub spread_refused : (room : List ℕ) → record { answer = Err Row; room = room } ≡ spread_answer T room
     unfolding spread_answer
     spread_refused room = rw no

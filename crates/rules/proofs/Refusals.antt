@@ -1,4 +1,5 @@
 -- What an accepted input is: none of section 5's reasons applies to it. Each fact here is one of those tests, turned round.
+use Rattle.std.specs.Prelude.{Err, Ok}
 use mathlib.Core.Path.{◌≡◌, refl, sym, ap, ◌∙◌}
 use mathlib.Core.Logic.{◌≢◌, ◌⊎◌, inl, inr, ⊎_elim}
 use mathlib.Core.Bool.{Bool, true, false, cond, ◌||◌, ◌&&◌, not, true≢false}
@@ -13,9 +14,7 @@ use Rattle.basics.specs.Sums.{sum_over}
 use Rattle.basics.proofs.Bools.{and_left, and_right, or_cases, not_left, not_right}
 use Rattle.rules.specs.declared.Refusal.{Refusal}
 use Rattle.rules.specs.declared.Refusal.TheVariants.{Text, Ways, Limit, Tracked, Accesses, Graph, Room, Row, SpreadRoom, Sets, Revision, NoCore, UntrackedAccess, SecondRevision, TraceLength, TraceRoom, ListingRoom, Listing, Expansion, Nightly, Pairing}
-use Rattle.rules.specs.declared.Verdict.{Verdict}
-use Rattle.rules.specs.declared.Verdict.TheVariants.{Accepted, Refused}
-use Rattle.rules.specs.Answers.{number_of, Reason, first, verdict_says, outcome_says, best_says}
+use Rattle.rules.specs.Answers.{number_of, Reason, first, verdict_says, outcome_says, number_says, Verdict}
 use Rattle.rules.specs.Contents.{among, once, all_tracked}
 use Rattle.rules.specs.Ordered.{before, by_number, rises}
 use Rattle.rules.specs.Input.{Input, nodes, Edge, edges_of, predecessors}
@@ -54,7 +53,7 @@ pub none_applies : (rs : List Reason) → verdict_says (first rs) ≡ 0 → Ever
 none_applies [] h = tt
 none_applies (r ∷ rs) h = go r.applies refl h (none_applies rs)
   where
-    go : (b : Bool) → r.applies ≡ b → verdict_says (cond b (Refused r.gives) (first rs)) ≡ 0
+    go : (b : Bool) → r.applies ≡ b → verdict_says (cond b (Err r.gives) (first rs)) ≡ 0
         → (verdict_says (first rs) ≡ 0 → Every (λ r. r.applies ≡ false) rs) → Every (λ r. r.applies ≡ false) (r ∷ rs)
     go true e h rest = absurd (numbered r.gives h)
     go false e h rest = (e, rest h)
@@ -150,8 +149,8 @@ unfolding outcome verdict
 accepted i h = facts i (none_applies (reasons i) (says (first (reasons i)) h))
   where
     says : (v : Verdict) → (outcome_says (answered v i)).number ≡ 0 → verdict_says v ≡ 0
-    says Accepted h = refl
-    says (Refused r) h = h
+    says (Ok tt) h = refl
+    says (Err r) h = h
 
 -- the call for the best case has the same reasons, so what it accepts is known to be so too; and the revision is the first, and every access is
 -- tracked
@@ -160,7 +159,7 @@ pub record BestChecked (i : Input) : Type 0 where
   pub first_revision : i.revision ≡ 1
   pub all_tracked_fact : all_tracked i.tracked i.accesses ≡ true
 
-pub best_accepted : (i : Input) → (best_says (best_outcome i)).number ≡ 0 → BestChecked i
+pub best_accepted : (i : Input) → (number_says (best_outcome i)).number ≡ 0 → BestChecked i
 unfolding best_outcome best_verdict best_reasons reasons
 best_accepted i h =
     let (w, (n, (v, (e, (k, (t, (a, (g, (u, (r, _)))))))))) = none_applies (best_reasons i) (says (first (best_reasons i)) h) in
@@ -172,9 +171,9 @@ best_accepted i h =
       all_tracked_fact = not-false _ u;
     }
   where
-    says : (v : Verdict) → (best_says (best_answered v i)).number ≡ 0 → verdict_says v ≡ 0
-    says Accepted h = refl
-    says (Refused r) h = h
+    says : (v : Verdict) → (number_says (best_answered v i)).number ≡ 0 → verdict_says v ≡ 0
+    says (Ok tt) h = refl
+    says (Err r) h = h
 
 -- and then it carries the finished work's set-aside count
 pub says_aside : (i : Input) → (outcome_says (outcome i)).number ≡ 0 → (outcome_says (outcome i)).aside ≡ (finished i).aside
@@ -182,11 +181,11 @@ unfolding outcome
 says_aside i h = go (verdict i) h
   where
     go : (v : Verdict) → (outcome_says (answered v i)).number ≡ 0 → (outcome_says (answered v i)).aside ≡ (finished i).aside
-    go Accepted h = refl
-    go (Refused r) h = absurd (numbered r h)
+    go (Ok tt) h = refl
+    go (Err r) h = absurd (numbered r h)
 
 -- an input is accepted as well where its verdict says so
-pub checked : (i : Input) → Accepted ≡ verdict i → Checked i
+pub checked : (i : Input) → Ok tt ≡ verdict i → Checked i
 unfolding outcome
 checked i v = accepted i (rw (← v) refl)
 

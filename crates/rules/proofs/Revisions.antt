@@ -1,5 +1,6 @@
 -- In the first revision every state of every table says that all ways may be filled: N for each set and 0 beyond them. So what a miss can
 -- evict are the held blocks of its set, and no access, fold or join changes a filled number.
+use Rattle.std.specs.Prelude.{Some}
 use mathlib.Core.Path.{◌≡◌, refl, sym, ap, ◌∙◌}
 use mathlib.Core.Logic.{◌≢◌, ◌⊎◌, inl, inr}
 use mathlib.Core.Bool.{Bool, true, false, cond}
@@ -10,7 +11,7 @@ use native.Mathlib.Omega.{arith}
 use lib.ListN.{length, get_or-replicate}
 use Rattle.rules.specs.declared.Pair.{Pair}
 use Rattle.rules.specs.Units.{more}
-use Rattle.rules.specs.Contents.{places, Target, Last, block, among, bit, hits, without, shared, held, size, target_of}
+use Rattle.rules.specs.Contents.{places, Target, Last, among, bit, hits, without, shared, held, size, target_of}
 use Rattle.rules.specs.Filling.{Filled, filled_at, evenly, fill_one}
 use Rattle.rules.specs.Ordered.{remove}
 use Rattle.rules.specs.AnyTable.{access as access_of, fold_at as fold_at_of, advance as advance_of, run as run_of_any, paired as paired_of, join as join_of, no_pairing, no_pairings, join_all_by as join_all_of, enter_by as enter_of, node_by as node_of}
@@ -125,7 +126,7 @@ module _ (N Z : ℕ) (few : N ≤ 16) (few_sets : Z ≤ 16) where
   unfolding run_of_any advance_of target_of
   full_run K ts sets l [] w h = h
   full_run K ts sets l (b ∷ bs) w h =
-      full_run K ts sets (block b) bs _ (full_folded K _ (full_access (target_of Z ts l b) (mod-lt b sets) w.table h))
+      full_run K ts sets (Some b) bs _ (full_folded K _ (full_access (target_of Z ts l b) (mod-lt b sets) w.table h))
 
   full_join : (S T : List State) → total S ≡ total T → Every Full S → Every Full T → Every Full (join S T)
   unfolding join_of paired_of

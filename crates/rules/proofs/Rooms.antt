@@ -1,5 +1,6 @@
 -- The work does not look at the rooms, and the answer only at whether they are long enough: with room for 64 result states and 5,184 working
 -- states it is what it is with exactly the room that is needed.
+use Rattle.std.specs.Prelude.{Err, Ok}
 use mathlib.Core.Path.{◌≡◌, refl, ap, ap₂, ◌∙◌}
 use mathlib.Core.Bool.{Bool, true, false, ◌&&◌}
 use mathlib.Core.List.{List, [], ◌∷◌, ◌++◌}
@@ -9,9 +10,7 @@ use native.Mathlib.Omega.{arith}
 use borrow.Author.Tests.{le-ltb}
 use lib.ListN.{length}
 use Rattle.rules.specs.declared.Cache.{Cache}
-use Rattle.rules.specs.declared.Verdict.{Verdict}
-use Rattle.rules.specs.declared.Verdict.TheVariants.{Accepted, Refused}
-use Rattle.rules.specs.declared.Outcome.TheVariants.{Finished}
+use Rattle.rules.specs.Answers.{Verdict}
 use Rattle.rules.specs.Units.{units}
 use Rattle.rules.specs.Contents.{Last}
 use Rattle.rules.specs.Input.{Input, input_in, input_of, run_of, edges_of, predecessors, joins_to}
@@ -23,8 +22,8 @@ use Rattle.rules.specs.Refusals.{outside, reasons, verdict, answered, outcome}
 use Rattle.rules.proofs.Refusals.{within}
 
 answered_alike : (v : Verdict) (i j : Input) → finished i ≡ finished j → answered v i ≡ answered v j
-answered_alike Accepted i j e = ap (λ (d : Work). Finished (length d.table) (units d.aside)) e
-answered_alike (Refused r) i j e = refl
+answered_alike (Ok tt) i j e = ap (λ (d : Work). Ok (record { states = length d.table; aside = units d.aside })) e
+answered_alike (Err r) i j e = refl
 
 module _ (c : Cache) (K : ℕ) (ts ns bs es : List ℕ) (r w : ℕ) where
   same_lasts : (n : ℕ) → lasts_to (input_of c K ts ns bs es) n ≡ lasts_to (input_in c K ts ns bs es r w) n

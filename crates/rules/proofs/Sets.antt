@@ -1,5 +1,6 @@
 -- The tracked blocks of a set: the mask of those that pass a test, bit by bit; a place belongs to one set only, so a block that comes in
 -- takes room in its own set alone; what a miss can evict; and with one set every block is in it.
+use Rattle.std.specs.Prelude.{Some}
 use mathlib.Core.Path.{◌≡◌, refl, sym, ap, ◌∙◌}
 use mathlib.Core.Logic.{◌≢◌, ◌⊎◌, inl, inr}
 use mathlib.Core.Bool.{Bool, true, false, cond, true≢false}
@@ -12,7 +13,7 @@ use lib.Dec.{eqb, ltb}
 use lib.ListN.{length, get_or}
 use borrow.Author.Tests.{eqb-true, eq-eqb, ne_eqb, ltb-true, ltb-false, lt-ltb, le-ltb}
 use Rattle.basics.proofs.Bools.{both, same_test}
-use Rattle.rules.specs.Contents.{places, Target, Last, at, bit, with, without, shared, held, size, mask_of, of_set, target_of}
+use Rattle.rules.specs.Contents.{places, Target, Last, bit, with, without, shared, held, size, mask_of, of_set, target_of}
 use Rattle.rules.specs.Filling.{Filled, filled_at, fill_one, fullest}
 use Rattle.rules.specs.Table.{State, units_of}
 use Rattle.rules.specs.Step.{at_risk, missed, rest_of, miss}
@@ -149,7 +150,7 @@ module _ (N Z : ℕ) (ts : List ℕ) where
             there : bit (of_set Z ts j) i ≡ true
             there = sub_shared_right _ _ i h
 
-            go : (bit C i ≡ true) ⊎ (x.place ≡ at i) → bit (shared D (of_set Z ts j)) i ≡ true
+            go : (bit C i ≡ true) ⊎ (x.place ≡ Some i) → bit (shared D (of_set Z ts j)) i ≡ true
             go (inl e) = both_shared D _ i (s i e) there
             go (inr e) = absurd (n (one_set_only Z ts j x.set i there (rw aim.beside at (aim.own i e))))
 
@@ -163,7 +164,7 @@ module _ (N Z : ℕ) (ts : List ℕ) where
         here : Sub (shared (with C x.place) G) (with (shared C G) x.place)
         here i h = pick (with_cases C x.place i (sub_shared_left _ _ i h))
           where
-            pick : (bit C i ≡ true) ⊎ (x.place ≡ at i) → bit (with (shared C G) x.place) i ≡ true
+            pick : (bit C i ≡ true) ⊎ (x.place ≡ Some i) → bit (with (shared C G) x.place) i ≡ true
             pick (inl e) = with_keeps (shared C G) x.place i (both_shared C G i e (sub_shared_right _ _ i h))
             pick (inr e) = rw e (with_new (shared C G) i)
 
@@ -202,7 +203,7 @@ module _ (N Z : ℕ) (ts : List ℕ) where
         here : Sub (shared (with (without C e) x.place) G) (with (without (shared C G) e) x.place)
         here i t = pick (with_cases (without C e) x.place i (sub_shared_left _ _ i t))
           where
-            pick : (bit (without C e) i ≡ true) ⊎ (x.place ≡ at i) → bit (with (without (shared C G) e) x.place) i ≡ true
+            pick : (bit (without C e) i ≡ true) ⊎ (x.place ≡ Some i) → bit (with (without (shared C G) e) x.place) i ≡ true
             pick (inl q) =
                 with_keeps (without (shared C G) e) x.place i
                 (without_keeps (shared C G) e i (λ s. true≢false (sym q ∙ ap (bit (without C e)) (sym s) ∙ without_gone C e held_there))

@@ -1,5 +1,6 @@
 -- What is known before the first access. Of a used cache nothing is known: every way may be filled, and no access is a hit before another has been made. In the first
 -- revision the two starts are the same: nothing of the work looks at which was named.
+use Rattle.std.specs.Prelude.{Err, None, Ok, Some}
 use mathlib.Core.Path.{◌≡◌, refl, ap, ap₂}
 use mathlib.Core.Bool.{false, and-false}
 use mathlib.Core.List.{List, [], ◌∷◌, ◌++◌}
@@ -7,11 +8,9 @@ use Prim.Native.Nat.{ℕ, zero, suc, ◌-◌, ◌≤◌, ◌<◌}
 use native.Mathlib.Omega.{arith}
 use lib.Dec.{eqb}
 use lib.ListN.{length, get_or-replicate}
-use Rattle.rules.specs.declared.Outcome.TheVariants.{Finished}
-use Rattle.rules.specs.declared.Verdict.{Verdict}
-use Rattle.rules.specs.declared.Verdict.TheVariants.{Accepted, Refused}
+use Rattle.rules.specs.Answers.{Verdict}
 use Rattle.rules.specs.Units.{units}
-use Rattle.rules.specs.Contents.{Place, at, untracked, has, Last, find, hits, target_of, last_after}
+use Rattle.rules.specs.Contents.{Place, has, Last, find, hits, target_of, last_after}
 use Rattle.rules.specs.Input.{Start, cold, warm, Input, cache, input_in, nodes, run_of, edges_of, predecessors}
 use Rattle.rules.specs.Filling.{filled_at}
 use Rattle.rules.specs.AnyTable.{node_by as node_of, worked_by as worked_of, finished_by as finished_of}
@@ -43,8 +42,8 @@ unfolding last_before target_of find
 first_no_hit Z ts ls b = go (find ts b)
   where
     go : (x : Place) → has 0 false x ≡ false
-    go (at j) = bit_zero j
-    go untracked = refl
+    go (Some j) = bit_zero j
+    go None = refl
 
 -- ---- the first revision, from either start
 module _ (Z N K : ℕ) (ts ns bs es : List ℕ) (r w : ℕ) where
@@ -79,5 +78,5 @@ module _ (Z N K : ℕ) (ts ns bs es : List ℕ) (r w : ℕ) where
   either_start = (go (verdict (started cold)), finished_either)
     where
       go : (v : Verdict) → answered v (started cold) ≡ answered v (started warm)
-      go Accepted = ap (λ (d : Work). Finished (length d.table) (units d.aside)) finished_either
-      go (Refused why) = refl
+      go (Ok tt) = ap (λ (d : Work). Ok (record { states = length d.table; aside = units d.aside })) finished_either
+      go (Err why) = refl

@@ -1,25 +1,19 @@
 -- Answers: document 01's number and values for each of their cases, and how the first reason to refuse is found.
-use Rattle.std.specs.Prelude.{Bool, cond, List, [], ◌∷◌, ℕ}
+use Rattle.std.specs.Prelude.{Bool, cond, List, [], ◌∷◌, ℕ, ⊤, Result, Ok, Err}
 use Rattle.rules.specs.declared.Refusal.{Refusal}
 use Rattle.rules.specs.declared.Refusal.TheVariants.{Text, Ways, Limit, Tracked, Accesses, Graph, Room, Row, SpreadRoom, Sets, Revision, NoCore, UntrackedAccess, SecondRevision, TraceLength, TraceRoom, ListingRoom, Listing, Expansion, Nightly, Pairing}
-use Rattle.rules.specs.declared.Verdict.{Verdict}
-use Rattle.rules.specs.declared.Verdict.TheVariants.{Accepted, Refused}
-use Rattle.rules.specs.declared.Outcome.{Outcome}
-use Rattle.rules.specs.declared.Outcome.TheVariants.{Finished, Refused as RefusedOutcome}
-use Rattle.rules.specs.declared.BestOutcome.{BestOutcome}
-use Rattle.rules.specs.declared.BestOutcome.TheVariants.{Finished as BestFinished, Refused as RefusedBest}
-use Rattle.rules.specs.declared.Amount.{Amount}
-use Rattle.rules.specs.declared.Amount.TheVariants.{Units as AmountOf, Refused as RefusedAmount}
-use Rattle.rules.specs.declared.Count.{Count}
-use Rattle.rules.specs.declared.Count.TheVariants.{Misses, Refused as RefusedCount}
-use Rattle.rules.specs.declared.MissCount.{MissCount}
-use Rattle.rules.specs.declared.MissCount.TheVariants.{Largest as LargestMisses, Refused as RefusedMisses}
-use Rattle.rules.specs.declared.HitCount.{HitCount}
-use Rattle.rules.specs.declared.HitCount.TheVariants.{Largest as LargestHits, Refused as RefusedHits}
-use Rattle.rules.specs.declared.Time.{Time}
-use Rattle.rules.specs.declared.Time.TheVariants.{Cycles, Refused as RefusedTime}
-use Rattle.rules.specs.declared.Length.{Length}
-use Rattle.rules.specs.declared.Length.TheVariants.{Accesses as AccessesOf, Refused as RefusedLength}
+use Rattle.rules.specs.declared.Units.{Units}
+use Rattle.rules.specs.declared.Misses.{Misses}
+use Rattle.rules.specs.declared.Hits.{Hits}
+use Rattle.rules.specs.declared.Finished.{Finished}
+
+-- accepted, or refused
+abbrev pub Verdict : Type 0
+Verdict = Result ⊤ Refusal
+
+-- the graph call's answer: the finished table's number of states and its set-aside count, or a refusal
+abbrev pub Outcome : Type 0
+Outcome = Result Finished Refusal
 
 -- the number of a refusal: section 5's, and document 02's
 abbrev pub number_of : Refusal → ℕ
@@ -58,15 +52,20 @@ when b r = record { applies = b; gives = r }
 
 -- reasons are checked in order
 abbrev pub first : List Reason → Verdict
-first [] = Accepted
-first (r ∷ rs) = cond r.applies (Refused r.gives) (first rs)
+first [] = Ok tt
+first (r ∷ rs) = cond r.applies (Err r.gives) (first rs)
+
+-- what is answered where nothing is refused, or the refusal
+abbrev pub answer_or : {A : Type 0} → Verdict → A → Result A Refusal
+answer_or (Ok tt) a = Ok a
+answer_or (Err r) a = Err r
 
 -- ---- what each answer says
 
 -- what a verdict says: 0, or the refusal's number
 abbrev pub verdict_says : Verdict → ℕ
-verdict_says Accepted = 0
-verdict_says (Refused r) = number_of r
+verdict_says (Ok tt) = 0
+verdict_says (Err r) = number_of r
 
 -- what an outcome says: 0, the number of states and the set-aside count; or the refusal's number and nothing else
 pub record OutcomeSays : Type 0 where
@@ -76,45 +75,30 @@ pub record OutcomeSays : Type 0 where
 
 -- of the graph call's outcome
 abbrev pub outcome_says : Outcome → OutcomeSays
-outcome_says (Finished n a) = record { number = 0; states = n; aside = a.0 }
-outcome_says (RefusedOutcome r) = record { number = number_of r; states = 0; aside = 0 }
+outcome_says (Ok f) = record { number = 0; states = f.states; aside = f.aside.0 }
+outcome_says (Err r) = record { number = number_of r; states = 0; aside = 0 }
 
 -- what an answer to a question says: 0 and the value; or the refusal's number and nothing else
 pub record AnswerSays : Type 0 where
   pub number : ℕ
   pub value : ℕ
 
--- of the best case's outcome: the number of states
-abbrev pub best_says : BestOutcome → AnswerSays
-best_says (BestFinished n) = record { number = 0; value = n }
-best_says (RefusedBest r) = record { number = number_of r; value = 0 }
+-- of an answer that is a number: misses, cycles, accesses, or the states of the best case's outcome
+abbrev pub number_says : Result ℕ Refusal → AnswerSays
+number_says (Ok n) = record { number = 0; value = n }
+number_says (Err r) = record { number = number_of r; value = 0 }
 
 -- of an answer in units
-abbrev pub amount_says : Amount → AnswerSays
-amount_says (AmountOf u) = record { number = 0; value = u.0 }
-amount_says (RefusedAmount r) = record { number = number_of r; value = 0 }
-
--- of an answer in misses
-abbrev pub count_says : Count → AnswerSays
-count_says (Misses m) = record { number = 0; value = m }
-count_says (RefusedCount r) = record { number = number_of r; value = 0 }
+abbrev pub amount_says : Result Units Refusal → AnswerSays
+amount_says (Ok u) = record { number = 0; value = u.0 }
+amount_says (Err r) = record { number = number_of r; value = 0 }
 
 -- of the best case's answers in misses, and in hits
-abbrev pub miss_count_says : MissCount → AnswerSays
-miss_count_says (LargestMisses m) = record { number = 0; value = m.0 }
-miss_count_says (RefusedMisses r) = record { number = number_of r; value = 0 }
+abbrev pub miss_count_says : Result Misses Refusal → AnswerSays
+miss_count_says (Ok m) = record { number = 0; value = m.0 }
+miss_count_says (Err r) = record { number = number_of r; value = 0 }
 
 -- what an answer about hits says
-abbrev pub hit_count_says : HitCount → AnswerSays
-hit_count_says (LargestHits h) = record { number = 0; value = h.0 }
-hit_count_says (RefusedHits r) = record { number = number_of r; value = 0 }
-
--- of an answer in cycles
-abbrev pub time_says : Time → AnswerSays
-time_says (Cycles n) = record { number = 0; value = n }
-time_says (RefusedTime r) = record { number = number_of r; value = 0 }
-
--- of an answer in accesses
-abbrev pub length_says : Length → AnswerSays
-length_says (AccessesOf n) = record { number = 0; value = n }
-length_says (RefusedLength r) = record { number = number_of r; value = 0 }
+abbrev pub hit_count_says : Result Hits Refusal → AnswerSays
+hit_count_says (Ok h) = record { number = 0; value = h.0 }
+hit_count_says (Err r) = record { number = number_of r; value = 0 }

@@ -1,12 +1,12 @@
 -- Tables and the work on them, whatever their states are: document 01, section 3; document 02, requests 3/13 and 11/13. Document 01's table is one
 -- kind (Fold.antt), the best case's (document 02, request 10/13; Best.antt) is another. What is the same for all kinds is said here once; what a kind
 -- makes of its states, it says in a record. The work on a graph is said for any pairings that are handed in; without any it is document 01's.
-use Rattle.std.specs.Prelude.{Bool, true, false, cond, ◌&&◌, ℕ, zero, suc, ◌+◌, ◌-◌, min, eqb, ltb, leb, length, get_or}
+use Rattle.std.specs.Prelude.{Bool, true, false, cond, ◌&&◌, ℕ, zero, suc, ◌+◌, ◌-◌, min, eqb, ltb, leb, length, get_or, Some}
 use mathlib.Core.List.{List, [], ◌∷◌, ◌++◌, map, flat_map}
 use Rattle.basics.specs.Sums.{sum_over}
 use Rattle.rules.specs.declared.Pair.{Pair}
 use Rattle.rules.specs.Units.{more}
-use Rattle.rules.specs.Contents.{Target, Last, block, target_of}
+use Rattle.rules.specs.Contents.{Target, Last, target_of}
 use Rattle.rules.specs.Input.{Input, nodes, run_of, edges_of, predecessors, joins_to}
 use Rattle.rules.specs.Lasts.{last_before, lasts_to}
 use Rattle.rules.specs.Ordered.{Order, insert_all, remove, best}
@@ -188,7 +188,7 @@ module _ {A : Type 0} (k : Kind A) where
   -- the accesses one after the other, where p was accessed directly before them
   unfoldable pub run : ℕ → ℕ → ℕ → List ℕ → Last → List ℕ → Work A → Work A
   run N Z K ts p [] w = w
-  run N Z K ts p (b ∷ bs) w = run N Z K ts (block b) bs (advance N K (target_of Z ts p b) w)
+  run N Z K ts p (b ∷ bs) w = run N Z K ts (Some b) bs (advance N K (target_of Z ts p b) w)
 
   -- ---- joins
 

@@ -1,14 +1,11 @@
 -- Questions put to a finished table of the best case: document 02, request 10/13, as in document 01, section 4. Of hits and of misses each.
-use Rattle.std.specs.Prelude.{Bool, true, ◌||◌, ◌&&◌, not, List, [], ◌∷◌, ◌++◌, ℕ, suc, ◌-◌, eqb, leb, ltb, length, replicate}
+use Rattle.std.specs.Prelude.{Bool, true, ◌||◌, ◌&&◌, not, List, [], ◌∷◌, ◌++◌, ℕ, suc, ◌-◌, eqb, leb, ltb, length, replicate, Err, Ok, Result}
+use Rattle.rules.specs.declared.Refusal.{Refusal}
+use Rattle.rules.specs.declared.Misses.{Misses}
+use Rattle.rules.specs.declared.Hits.{Hits}
 use Rattle.rules.specs.declared.Refusal.TheVariants.{Row, SpreadRoom}
-use Rattle.rules.specs.declared.Verdict.{Verdict}
-use Rattle.rules.specs.declared.Verdict.TheVariants.{Accepted, Refused}
-use Rattle.rules.specs.declared.MissCount.{MissCount}
-use Rattle.rules.specs.declared.MissCount.TheVariants.{Largest as LargestMisses, Refused as RefusedMisses}
-use Rattle.rules.specs.declared.HitCount.{HitCount}
-use Rattle.rules.specs.declared.HitCount.TheVariants.{Largest as LargestHits, Refused as RefusedHits}
 use Rattle.rules.specs.Units.{whole}
-use Rattle.rules.specs.Answers.{Reason, when, first}
+use Rattle.rules.specs.Answers.{Reason, when, first, Verdict, answer_or}
 use Rattle.rules.specs.Ordered.{rises}
 use Rattle.rules.specs.AnyTable.{total}
 use Rattle.rules.specs.Counts.{largest, spread, above}
@@ -59,27 +56,17 @@ spread_reasons row m room = best_row_reason row ∷ when (ltb (length room) (suc
 
 -- what the lent room then holds: the units at each count and then zeros; a refusal leaves it as it was
 abbrev pub room_after : Verdict → List ℕ → List ℕ → List ℕ
-room_after Accepted counts room = counts ++ replicate (length room - length counts) 0
-room_after (Refused r) counts room = room
-
--- the largest miss count, or the refusal
-abbrev pub misses_or : Verdict → ℕ → MissCount
-misses_or Accepted m = LargestMisses (record { 0 = m })
-misses_or (Refused r) m = RefusedMisses r
-
--- the largest hit count, or the refusal
-abbrev pub hits_or : Verdict → ℕ → HitCount
-hits_or Accepted h = LargestHits (record { 0 = h })
-hits_or (Refused r) h = RefusedHits r
+room_after (Ok tt) counts room = counts ++ replicate (length room - length counts) 0
+room_after (Err r) counts room = room
 
 -- what a spread of misses answers, the largest miss count, and what it leaves in the lent room
 pub record MissSpreadAnswer : Type 0 where
-  pub answer : MissCount
+  pub answer : Result Misses Refusal
   pub room : List ℕ
 
 -- the same of a spread of hits
 pub record HitSpreadAnswer : Type 0 where
-  pub answer : HitCount
+  pub answer : Result Hits Refusal
   pub room : List ℕ
 
 -- the spread of misses
@@ -87,11 +74,11 @@ unfoldable pub miss_spread_answer : List BestState → List ℕ → MissSpreadAn
 miss_spread_answer row room =
     let m = largest misses_of row in
     let v = first (spread_reasons row m room) in
-    record { answer = misses_or v m; room = room_after v (miss_spread row) room }
+    record { answer = answer_or v (record { 0 = m }); room = room_after v (miss_spread row) room }
 
 -- the spread of hits
 unfoldable pub hit_spread_answer : List BestState → List ℕ → HitSpreadAnswer
 hit_spread_answer row room =
     let h = largest hits_of row in
     let v = first (spread_reasons row h room) in
-    record { answer = hits_or v h; room = room_after v (hit_spread row) room }
+    record { answer = answer_or v (record { 0 = h }); room = room_after v (hit_spread row) room }

@@ -1,12 +1,16 @@
 -- Contents: a set of tracked blocks as a mask, a number whose bit i says whether the block at place i of the list is in the set.
 -- Document 01, section 2; document 02, requests 1/13 and 3/13.
-use Rattle.std.specs.Prelude.{Bool, true, false, cond, ◌||◌, ◌&&◌, not, List, [], ◌∷◌, ◌++◌, ℕ, zero, suc, ◌+◌, ◌*◌, ◌/◌, ◌%◌, ◌^◌, eqb, length}
+use Rattle.std.specs.Prelude.{Bool, true, false, cond, ◌||◌, ◌&&◌, not, List, [], ◌∷◌, ◌++◌, ℕ, zero, suc, ◌+◌, ◌*◌, ◌/◌, ◌%◌, ◌^◌, eqb, length, Option, Some, None}
 use Rattle.std.specs.Int.Bits.{bit_and, bit_or, bit_xor}
-pub use Rattle.rules.specs.declared.Place.{Place}
-pub use Rattle.rules.specs.declared.Place.TheVariants.{At as at, Untracked as untracked}
-pub use Rattle.rules.specs.declared.Last.{Last}
-pub use Rattle.rules.specs.declared.Last.TheVariants.{Block as block, Unknown as unknown}
 pub use Rattle.rules.specs.declared.Target.{Target}
+
+-- where a block stands in the list of tracked blocks, if it is tracked
+abbrev pub Place : Type 0
+Place = Option ℕ
+
+-- the block accessed directly before, if it is known
+abbrev pub Last : Type 0
+Last = Option ℕ
 
 -- at most 16 blocks are tracked
 unfoldable pub places : ℕ
@@ -31,13 +35,13 @@ once (t ∷ ts) = not (among ts t) && once ts
 
 -- one place further on
 abbrev pub further : Place → Place
-further (at i) = at (suc i)
-further untracked = untracked
+further (Some i) = Some (suc i)
+further None = None
 
 -- looking up a block finds its place in the list or finds it untracked
 unfoldable pub find : List ℕ → ℕ → Place
-find [] b = untracked
-find (t ∷ ts) b = cond (eqb t b) (at 0) (further (find ts b))
+find [] b = None
+find (t ∷ ts) b = cond (eqb t b) (Some 0) (further (find ts b))
 
 -- ---- masks
 
@@ -48,13 +52,13 @@ bit C i = eqb (C / 2 ^ i % 2) 1
 -- whether the block that was looked up is surely held: a tracked one where C has it, an untracked one where it was accessed directly
 -- before, which r says
 abbrev pub has : ℕ → Bool → Place → Bool
-has C r (at i) = bit C i
-has C r untracked = r
+has C r (Some i) = bit C i
+has C r None = r
 
 -- C with the block that was looked up; an untracked one adds nothing
 unfoldable pub with : ℕ → Place → ℕ
-with C (at i) = bit_or C (2 ^ i)
-with C untracked = C
+with C (Some i) = bit_or C (2 ^ i)
+with C None = C
 
 -- C without the block at place i, which it holds
 unfoldable pub without : ℕ → ℕ → ℕ
@@ -92,18 +96,18 @@ of_set Z ts j = mask_of (λ t. eqb (t % Z) j) ts
 
 -- whether b was
 abbrev pub is_last : Last → ℕ → Bool
-is_last (block a) b = eqb a b
-is_last unknown b = false
+is_last (Some a) b = eqb a b
+is_last None b = false
 
 -- the last block after the accesses bs: each makes its block the last one, and an empty run passes it on
 unfoldable pub last_after : Last → List ℕ → Last
 last_after l [] = l
-last_after l (b ∷ bs) = last_after (block b) bs
+last_after l (b ∷ bs) = last_after (Some b) bs
 
 -- what one says, if the other says the same; where one knows nothing, nothing is known
 abbrev pub agreed : Last → Last → Last
-agreed (block a) k = cond (is_last k a) (block a) unknown
-agreed unknown k = unknown
+agreed (Some a) k = cond (is_last k a) (Some a) None
+agreed None k = None
 
 -- ---- what an access is after
 

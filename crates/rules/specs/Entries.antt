@@ -1,12 +1,8 @@
 -- A pairing or none for each join, as it is handed in, and what the graph call with them answers: document 02, request 11/13.
-use Rattle.std.specs.Prelude.{Bool, true, cond, ◌||◌, ◌&&◌, not, List, [], ◌∷◌, ◌++◌, ℕ, ◌+◌, ◌*◌, eqb, leb, length, get_or, take, drop}
+use Rattle.std.specs.Prelude.{Bool, true, cond, ◌||◌, ◌&&◌, not, List, [], ◌∷◌, ◌++◌, ℕ, ◌+◌, ◌*◌, eqb, leb, length, get_or, take, drop, Err, Ok}
 use Rattle.rules.specs.declared.Refusal.TheVariants.{Pairing}
-use Rattle.rules.specs.declared.Verdict.{Verdict}
-use Rattle.rules.specs.declared.Verdict.TheVariants.{Accepted, Refused}
-use Rattle.rules.specs.declared.Outcome.{Outcome}
-use Rattle.rules.specs.declared.Outcome.TheVariants.{Finished, Refused as RefusedOutcome}
 use Rattle.rules.specs.Units.{units}
-use Rattle.rules.specs.Answers.{Reason, when, first}
+use Rattle.rules.specs.Answers.{Reason, when, first, Outcome, Verdict}
 use Rattle.rules.specs.Input.{Input, nodes, edges_of, joins_to}
 use Rattle.rules.specs.AnyTable.{Match, Entries, no_pairing, pairing}
 use Rattle.rules.specs.Graph.{finished_by, all_fit}
@@ -65,8 +61,8 @@ paired_verdict i ns rs = first (reasons i ++ (pairing_reason i ns rs ∷ []))
 
 -- accepted: the finished table's number of states and its set-aside count; refused: the refusal
 abbrev pub paired_answered : Verdict → Input → Entries → Outcome
-paired_answered Accepted i q = let w = finished_by q i in Finished (length w.table) (units w.aside)
-paired_answered (Refused r) i q = RefusedOutcome r
+paired_answered (Ok tt) i q = let w = finished_by q i in Ok (record { states = length w.table; aside = units w.aside })
+paired_answered (Err r) i q = Err r
 
 -- the answer: a refusal, or how many states there are and what is set aside
 unfoldable pub paired_outcome : Input → List ℕ → List ℕ → Outcome

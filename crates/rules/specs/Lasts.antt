@@ -1,11 +1,11 @@
 -- The last block of each node, which the tables do not tell: document 02, request 3/13.
-use Rattle.std.specs.Prelude.{List, [], ◌∷◌, ◌++◌, ℕ, zero, suc, get_or}
-use Rattle.rules.specs.Contents.{Last, unknown, agreed, last_after}
+use Rattle.std.specs.Prelude.{List, [], ◌∷◌, ◌++◌, ℕ, zero, suc, get_or, None}
+use Rattle.rules.specs.Contents.{Last, agreed, last_after}
 use Rattle.rules.specs.Input.{Input, run_of, edges_of, predecessors}
 
 -- that of node j, if it is known
 abbrev pub last_at : List Last → ℕ → Last
-last_at ls j = get_or ls j unknown
+last_at ls j = get_or ls j None
 
 -- l, if the nodes ps all agree with it
 unfoldable pub agree_all : List Last → List ℕ → Last → Last
@@ -14,7 +14,7 @@ agree_all ls (p ∷ ps) l = agree_all ls ps (agreed l (last_at ls p))
 
 -- the block accessed directly before a node whose predecessors are ps: known only where they all agree, and not before the first access
 unfoldable pub last_before : List Last → List ℕ → Last
-last_before ls [] = unknown
+last_before ls [] = None
 last_before ls (p ∷ ps) = agree_all ls ps (last_at ls p)
 
 -- the last block at the end of node j, after the nodes before it

@@ -16,6 +16,8 @@ pub mod Fold
 pub mod Run
 pub mod Join
 pub mod Graph
+-- Request 12/13: how the cache is found
+pub mod Starts
 -- Request 10/13: the best case's table
 pub mod Best
 -- Section 4: questions put to a finished table

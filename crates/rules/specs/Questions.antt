@@ -1,14 +1,10 @@
 -- Questions put to a finished table: document 01, section 4.
-use Rattle.std.specs.Prelude.{Bool, true, false, ◌&&◌, not, List, [], ◌∷◌, ◌++◌, ℕ, zero, suc, ◌-◌, eqb, leb, ltb, length, replicate}
+use Rattle.std.specs.Prelude.{Bool, true, false, ◌&&◌, not, List, [], ◌∷◌, ◌++◌, ℕ, zero, suc, ◌-◌, eqb, leb, ltb, length, replicate, Err, Ok, Result}
+use Rattle.rules.specs.declared.Units.{Units}
+use Rattle.rules.specs.declared.Refusal.{Refusal}
 use Rattle.rules.specs.declared.Refusal.TheVariants.{Row, SpreadRoom}
-use Rattle.rules.specs.declared.Verdict.{Verdict}
-use Rattle.rules.specs.declared.Verdict.TheVariants.{Accepted, Refused}
-use Rattle.rules.specs.declared.Amount.{Amount}
-use Rattle.rules.specs.declared.Amount.TheVariants.{Units as AmountOf, Refused as RefusedAmount}
-use Rattle.rules.specs.declared.Count.{Count}
-use Rattle.rules.specs.declared.Count.TheVariants.{Misses, Refused as RefusedCount}
 use Rattle.rules.specs.Units.{whole, units}
-use Rattle.rules.specs.Answers.{Reason, when, first}
+use Rattle.rules.specs.Answers.{Reason, when, first, Verdict, answer_or}
 use Rattle.rules.specs.Filling.{numbers_of}
 use Rattle.rules.specs.Counts.{units_at as units_at_of, largest as largest_of, counts_below as counts_below_of, spread as spread_of, above as above_of}
 use Rattle.rules.specs.Table.{State, units_of, rising, total}
@@ -79,35 +75,25 @@ smallest_budget u T = least (λ B. leb (above B T) u) (largest T)
 abbrev pub row_reason : List State → Reason
 row_reason row = when (not (is_table row)) Row
 
--- the units, or the refusal
-abbrev pub amount_or : Verdict → ℕ → Amount
-amount_or Accepted u = AmountOf (units u)
-amount_or (Refused r) u = RefusedAmount r
-
 -- what is answered about the units above B
-unfoldable pub above_answer : List State → ℕ → Amount
-above_answer row B = amount_or (first (row_reason row ∷ [])) (above B row)
-
--- the miss count, or the refusal
-abbrev pub count_or : Verdict → ℕ → Count
-count_or Accepted m = Misses m
-count_or (Refused r) m = RefusedCount r
+unfoldable pub above_answer : List State → ℕ → Result Units Refusal
+above_answer row B = answer_or (first (row_reason row ∷ [])) (units (above B row))
 
 -- what is answered about the smallest budget for u units
-unfoldable pub budget_answer : List State → ℕ → Count
-budget_answer row u = count_or (first (row_reason row ∷ [])) (smallest_budget u row)
+unfoldable pub budget_answer : List State → ℕ → Result ℕ Refusal
+budget_answer row u = answer_or (first (row_reason row ∷ [])) (smallest_budget u row)
 
 -- what the spread answers, the largest miss count, and what it leaves in the lent room: the units at each count and then zeros; a
 -- refusal leaves the room as it was
 pub record SpreadAnswer : Type 0 where
-  pub answer : Count
+  pub answer : Result ℕ Refusal
   pub room : List ℕ
 
 -- the spread of an accepted row goes into the room; a refusal is the answer, and the room stays as it was
 abbrev pub spread_into : Verdict → List State → List ℕ → SpreadAnswer
-spread_into Accepted row room =
-    record { answer = Misses (largest row); room = spread row ++ replicate (length room - suc (largest row)) 0 }
-spread_into (Refused r) row room = record { answer = RefusedCount r; room = room }
+spread_into (Ok tt) row room =
+    record { answer = Ok (largest row); room = spread row ++ replicate (length room - suc (largest row)) 0 }
+spread_into (Err r) row room = record { answer = Err r; room = room }
 
 -- 7, then 8, then the spread
 unfoldable pub spread_answer : List State → List ℕ → SpreadAnswer

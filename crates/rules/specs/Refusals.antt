@@ -1,15 +1,10 @@
 -- When the work says no: document 01, section 5. Reasons are checked in this order; the first that applies is given.
-use Rattle.std.specs.Prelude.{Bool, true, false, ◌||◌, ◌&&◌, not, List, [], ◌∷◌, map, ℕ, zero, suc, eqb, ltb, length}
+use Rattle.std.specs.Prelude.{Bool, true, false, ◌||◌, ◌&&◌, not, List, [], ◌∷◌, map, ℕ, zero, suc, eqb, ltb, length, Err, Ok, Result}
 use Rattle.basics.specs.Sums.{sum_over}
+use Rattle.rules.specs.declared.Refusal.{Refusal}
 use Rattle.rules.specs.declared.Refusal.TheVariants.{Ways, Sets, Revision, Limit, Tracked, Accesses, Graph, Room, UntrackedAccess, SecondRevision}
-use Rattle.rules.specs.declared.Verdict.{Verdict}
-use Rattle.rules.specs.declared.Verdict.TheVariants.{Accepted, Refused}
-use Rattle.rules.specs.declared.Outcome.{Outcome}
-use Rattle.rules.specs.declared.Outcome.TheVariants.{Finished, Refused as RefusedOutcome}
-use Rattle.rules.specs.declared.BestOutcome.{BestOutcome}
-use Rattle.rules.specs.declared.BestOutcome.TheVariants.{Finished as BestFinished, Refused as RefusedBest}
 use Rattle.rules.specs.Units.{units}
-use Rattle.rules.specs.Answers.{Reason, when, first}
+use Rattle.rules.specs.Answers.{Reason, when, first, Outcome, Verdict}
 use Rattle.rules.specs.Contents.{among, once, all_tracked}
 use Rattle.rules.specs.Ordered.{Order, by_two, rises}
 use Rattle.rules.specs.Input.{Input, Edge, edges_of}
@@ -118,8 +113,8 @@ verdict i = first (reasons i)
 
 -- accepted: the finished table's number of states and its set-aside count; refused: the refusal
 abbrev pub answered : Verdict → Input → Outcome
-answered Accepted i = let w = finished i in Finished (length w.table) (units w.aside)
-answered (Refused r) i = RefusedOutcome r
+answered (Ok tt) i = let w = finished i in Ok (record { states = length w.table; aside = units w.aside })
+answered (Err r) i = Err r
 
 -- the answer: a refusal, or how many states there are and what is set aside
 unfoldable pub outcome : Input → Outcome
@@ -155,10 +150,10 @@ unfoldable pub best_verdict : Input → Verdict
 best_verdict i = first (best_reasons i)
 
 -- accepted: the number of states of the best case's table; refused: the refusal
-abbrev pub best_answered : Verdict → Input → BestOutcome
-best_answered Accepted i = BestFinished (length (best_table i))
-best_answered (Refused r) i = RefusedBest r
+abbrev pub best_answered : Verdict → Input → Result ℕ Refusal
+best_answered (Ok tt) i = Ok (length (best_table i))
+best_answered (Err r) i = Err r
 
 -- the answer: a refusal, or how many states the best case's table has
-unfoldable pub best_outcome : Input → BestOutcome
+unfoldable pub best_outcome : Input → Result ℕ Refusal
 best_outcome i = best_answered (best_verdict i) i

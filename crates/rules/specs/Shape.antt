@@ -1,7 +1,7 @@
 -- What every table of the work is: code is held to it, and the laws in proofs/ show that each step keeps it.
-use Rattle.std.specs.Prelude.{◌≡◌, true, false, List, [], ◌∷◌, ℕ, ◌+◌, ◌^◌, ◌≤◌, ◌<◌, length}
+use Rattle.std.specs.Prelude.{◌≡◌, true, false, List, [], ◌∷◌, ℕ, ◌+◌, ◌^◌, ◌≤◌, ◌<◌, length, Some}
 use Rattle.rules.specs.Units.{whole}
-use Rattle.rules.specs.Contents.{Place, Target, at, bit, shared, size, of_set}
+use Rattle.rules.specs.Contents.{Place, Target, bit, shared, size, of_set}
 use Rattle.rules.specs.Filling.{Filled, filled_at, evenly}
 use Rattle.rules.specs.Ordered.{rises}
 use Rattle.rules.specs.AnyTable.{Listing, total}
@@ -26,13 +26,13 @@ pub record Sound {A : Type 0} (l : Listing A) (P : A → Type 0) (K : ℕ) (T : 
 
 -- x is one of k places, or untracked
 abbrev pub Listed : ℕ → Place → Type 0
-Listed k x = (i : ℕ) → x ≡ at i → i < k
+Listed k x = (i : ℕ) → x ≡ Some i → i < k
 
 -- x has one of the places of ts or none, a place of its own set, one of sixteen, and that set's blocks beside it
 pub record Aimed (Z : ℕ) (ts : List ℕ) (x : Target) : Type 0 where
   pub near : x.set < 16
   pub placed : Listed (length ts) x.place
-  pub own : (i : ℕ) → x.place ≡ at i → bit x.mates i ≡ true
+  pub own : (i : ℕ) → x.place ≡ Some i → bit x.mates i ≡ true
   pub beside : x.mates ≡ of_set Z ts x.set
 
 -- C has no more blocks of any set than ways of it may be filled, which are no more than N

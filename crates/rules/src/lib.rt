@@ -4,6 +4,7 @@
 ghost use Rattle.std.specs.Prelude.{◌≡◌};
 ghost use Rattle.rules.specs.Units.{split_of, add_of};
 ghost use Rattle.rules.specs.Answers.{number_of};
+ghost use Rattle.rules.specs.Starts.{start_in, start_from};
 
 // A probability: whole units of 2^-48.
 #[repr(C)]
@@ -91,13 +92,6 @@ pub struct BestState {
     pub units: Units,
 }
 
-// Where an accessed block stands in the list of tracked blocks.
-#[derive(Clone, Copy)]
-pub enum Place {
-    At(usize),
-    Untracked,
-}
-
 // The cache: how many sets it has, how many ways a set has, the core's revision, and how it is found.
 #[derive(Clone, Copy)]
 pub struct Cache {
@@ -107,18 +101,11 @@ pub struct Cache {
     pub start: Start,
 }
 
-// The block accessed directly before, if it is known.
-#[derive(Clone, Copy)]
-pub enum Last {
-    Unknown,
-    Block(u32),
-}
-
-// What an access is after: where its block stands in the list of tracked blocks, whether it was accessed directly before, the set that it
+// What an access is after: where its block stands in the list of tracked blocks, if it is tracked, whether it was accessed directly before, the set that it
 // belongs to, and the tracked blocks of that set, as a mask.
 #[derive(Clone, Copy)]
 pub struct Target {
-    pub place: Place,
+    pub place: Option<usize>,
     pub again: bool,
     pub set: u32,
     pub mates: u64,
@@ -129,6 +116,34 @@ pub struct Target {
 pub enum Start {
     Cold,
     Warm,
+}
+
+// A number that says no start.
+#[derive(Clone, Copy)]
+pub struct NoStart(pub u32);
+
+// 0 says that the cache is empty, 1 that it was used.
+impl TryFrom<u32> for Start {
+    type Error = NoStart;
+
+    ghost try_from_gives = { λ number r. r ≡ start_in number };
+
+    fn try_from(number: u32) -> Result<Self, NoStart> {
+        match number {
+            0 => Ok(Start::Cold),
+            1 => Ok(Start::Warm),
+            _ => Err(NoStart(number)),
+        }
+    }
+}
+
+// Whether the cache was used.
+impl From<bool> for Start {
+    ghost from_gives = { λ warm r. r ≡ start_from warm };
+
+    fn from(warm: bool) -> Start {
+        if warm { Start::Warm } else { Start::Cold }
+    }
 }
 
 // The places of the two states that a fold makes one: that of fewest units in the table, and its partner's among the others.
@@ -195,66 +210,11 @@ impl Refusal {
     }
 }
 
-// What is decided about an input before any work.
+// What the graph call answers where it accepts: how many states the finished table has, and the set-aside count.
 #[derive(Clone, Copy)]
-pub enum Verdict {
-    Accepted,
-    Refused(Refusal),
-}
-
-// What the graph call answers: how many states the finished table has and the set-aside count, or a refusal.
-#[derive(Clone, Copy)]
-pub enum Outcome {
-    Finished(usize, Units),
-    Refused(Refusal),
-}
-
-// What the graph call for the best case answers: how many states the finished table has, or a refusal.
-#[derive(Clone, Copy)]
-pub enum BestOutcome {
-    Finished(usize),
-    Refused(Refusal),
-}
-
-// What a question about units answers.
-#[derive(Clone, Copy)]
-pub enum Amount {
-    Units(Units),
-    Refused(Refusal),
-}
-
-// What a question about a miss count answers: the smallest budget, or the largest count of a spread.
-#[derive(Clone, Copy)]
-pub enum Count {
-    Misses(u64),
-    Refused(Refusal),
-}
-
-// What the spread of misses of a best case's table answers, and the spread of hits: the largest count.
-#[derive(Clone, Copy)]
-pub enum MissCount {
-    Largest(Misses),
-    Refused(Refusal),
-}
-
-#[derive(Clone, Copy)]
-pub enum HitCount {
-    Largest(Hits),
-    Refused(Refusal),
-}
-
-// What a question about cycles answers: the smallest budget.
-#[derive(Clone, Copy)]
-pub enum Time {
-    Cycles(u64),
-    Refused(Refusal),
-}
-
-// What the longest path answers: its accesses.
-#[derive(Clone, Copy)]
-pub enum Length {
-    Accesses(u64),
-    Refused(Refusal),
+pub struct Finished {
+    pub states: usize,
+    pub aside: Units,
 }
 
 // A core: the cycles of a hit, and of a miss.

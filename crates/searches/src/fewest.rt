@@ -1,5 +1,6 @@
 // The fewest units of a table.
 ghost use Rattle.std.specs.Prelude.{◌+◌, ◌*◌, ◌≤◌, length};
+ghost use Rattle.rules.specs.Table.{state_at, units_of};
 ghost use Rattle.words.specs.Tables.{table_of};
 ghost use Rattle.searches.specs.Least.{Fewest, Lowest as LowestOf};
 
@@ -36,6 +37,7 @@ pub(crate) fn least_by_four(words: &[u64], n: usize) -> Lowest
     let mut units = load(words, 0).units;
     let mut from: usize = 0;
     let mut i: usize = 1;
+    // Four states a step, as far as four are left; the caller goes on one by one.
     while i + 4 <= n {
         let u = least_of_four(words, i);
         if u.0 < units.0 {
@@ -59,18 +61,31 @@ pub(crate) fn least(words: &[u64], n: usize) -> Lowest
     let most = least_by_four(words, n);
     let mut units = most.units;
     let mut from = most.from;
-    let mut i = most.seen;
-    while i < n {
+    for i in most.seen..n {
         let u = load(words, i).units;
         if u.0 < units.0 {
             units = u;
             from = i;
         }
-        i += 1;
     }
     Lowest {
         units,
         from,
         seen: n,
     }
+}
+
+// The first of `n` states that has no more units than the fewest, which are known.
+pub(crate) fn first_with(words: &[u64], n: usize, lowest: Lowest) -> usize
+    requires { (n * 5 ≤ length words.now) × LowestOf (table_of words.now) n lowest.units.0 lowest.from }
+    ensures { LowestOf (table_of words.now) n lowest.units.0 result × (units_of (state_at (table_of words.now) result) ≤ lowest.units.0) }
+{
+    let units = lowest.units;
+    for i in lowest.from..n {
+        let u = load(words, i).units;
+        if u.0 <= units.0 {
+            return i;
+        }
+    }
+    n
 }

@@ -1,14 +1,15 @@
-// The partner of a state in a fold: the first alike behind it is sought by `choose`, and what else can be the partner here.
+// The partner of a state in a fold: the first alike behind it, and what else can be the partner.
 ghost use Rattle.std.specs.Prelude.{◌≡◌, cond, ◌||◌, ◌&&◌, not, ◌+◌, ◌*◌, ◌≤◌, ◌<◌, eqb, ltb, length};
 ghost use Rattle.rules.specs.Fold.{sharing as sharing_of, apart as apart_of};
 ghost use Rattle.rules.specs.Table.{state_at};
 ghost use Rattle.words.specs.Tables.{table_of};
-ghost use Rattle.searches.specs.Searches.{leads, holds_all, nearer, first_of_mask, first_holder, nearest_holder, nearest_of_all, nearest as nearest_to};
+ghost use Rattle.searches.specs.Searches.{leads, holds_all, nearer, first_of_mask, first_holder, nearest_holder, nearest_of_all, nearest as nearest_to, first_alike, partner_of};
 
 use crate::memory::load;
 use folding::none_nearer;
 use folding::partner::{apart, closer, holds_all, is_alike, is_unbeaten, one_fewer, sharing};
 use rules::State;
+use tables::size_of;
 
 // The first place of another state than the one at place `at`.
 pub(crate) fn first_other(at: usize) -> usize
@@ -42,8 +43,7 @@ pub(crate) fn nearest_of_all(words: &[u64], n: usize, at: usize, s: State, bound
     let first = load(words, partner);
     let mut most = sharing(s, first);
     let mut near = apart(s, first);
-    let mut j = partner + 1;
-    while j < n {
+    for j in partner + 1..n {
         if is_unbeaten(most, near, bound) {
             return partner;
         }
@@ -53,7 +53,6 @@ pub(crate) fn nearest_of_all(words: &[u64], n: usize, at: usize, s: State, bound
             most = sharing(s, t);
             near = apart(s, t);
         }
-        j += 1;
     }
     partner
 }
@@ -88,14 +87,12 @@ pub(crate) fn first_of_mask(words: &[u64], at: usize, mask: u64) -> usize
     requires { at * 5 ≤ length words.now }
     ensures { (result ≡ first_of_mask (table_of words.now) mask at) × (result ≤ at) }
 {
-    let mut i = at;
-    while 0 < i {
-        if load(words, i - 1).mask != mask {
-            return i;
+    for i in (0..at).rev() {
+        if load(words, i).mask != mask {
+            return i + 1;
         }
-        i -= 1;
     }
-    i
+    0
 }
 
 // The place of the first of the states that hold all blocks of `s`, which stands at place `at` of `n`, from the first of its mask on; `n` if there is none.
@@ -103,12 +100,11 @@ pub(crate) fn first_holder(words: &[u64], n: usize, at: usize, s: State) -> usiz
     requires { (at < n) × (n * 5 ≤ length words.now) }
     ensures { result ≡ first_holder n (table_of words.now) s at }
 {
-    let mut j = first_of_mask(words, at, s.mask);
-    while j < n {
+    let first = first_of_mask(words, at, s.mask);
+    for j in first..n {
         if is_holder(words, at, s, j) {
             return j;
         }
-        j += 1;
     }
     n
 }
@@ -136,8 +132,7 @@ pub(crate) fn nearest_holder(words: &[u64], n: usize, at: usize, s: State, first
 {
     let mut found = first;
     let mut near = apart(s, load(words, first));
-    let mut j = first + 1;
-    while j < n {
+    for j in first + 1..n {
         if none_nearer(near) {
             return found;
         }
@@ -145,7 +140,6 @@ pub(crate) fn nearest_holder(words: &[u64], n: usize, at: usize, s: State, first
             found = j;
             near = apart(s, load(words, j));
         }
-        j += 1;
     }
     found
 }
@@ -161,4 +155,33 @@ pub(crate) fn nearest(words: &[u64], n: usize, at: usize, s: State) -> usize
         return nearest_holder(words, n, at, s, first);
     }
     nearest_of_all(words, n, at, s, one_fewer(s))
+}
+
+// The place of the first behind place `at`, of `n`, that is alike to `s`; `n` if there is none.
+pub(crate) fn first_alike(words: &[u64], n: usize, at: usize, s: State) -> usize
+    requires { (at < n) × (n * 5 ≤ length words.now) }
+    ensures { result ≡ first_alike n (table_of words.now) s at }
+{
+    for j in at + 1..n {
+        if is_alike(s, load(words, j)) {
+            return j;
+        }
+    }
+    n
+}
+
+// The partner of `s`, which stands at place `at` of `n`: the first alike behind it where none before it is alike, or else the nearest; and otherwise the best of
+// all.
+pub(crate) fn partner_of(words: &[u64], n: usize, at: usize, s: State) -> usize
+    requires { (2 ≤ n) × (at < n) × (n * 5 ≤ length words.now) }
+    ensures { result ≡ partner_of n (table_of words.now) s at }
+{
+    if !stands_first(words, at, s) {
+        return nearest_of_all(words, n, at, s, size_of(s.mask));
+    }
+    let alike = first_alike(words, n, at, s);
+    if alike < n {
+        return alike;
+    }
+    nearest(words, n, at, s)
 }

@@ -12,39 +12,59 @@ fn blocks_of(sets: u32) -> [u32; 16] {
     }
 }
 
-// What a way holds before the first access, where `block` is its block: nothing (`kind` 0), that block (1), a foreign one of the same set (2), or that block in the
-// first way of the set alone (3).
-fn held_before(kind: u32, way: usize, block: u32) -> u32 {
+// How a cache is found: what each way holds before the first access.
+#[derive(Clone, Copy)]
+pub(crate) enum Found {
+    Nothing,
+    // The way's own block.
+    Own,
+    // A foreign block of the same set.
+    Foreign,
+    // The way's own block in the first way of a set, and nothing in the others.
+    First,
+}
+
+impl From<u32> for Found {
+    fn from(kind: u32) -> Found {
+        match kind {
+            1 => Found::Own,
+            2 => Found::Foreign,
+            3 => Found::First,
+            _ => Found::Nothing,
+        }
+    }
+}
+
+// What a way holds before the first access, where `block` is its own block.
+fn held_before(found: Found, way: usize, block: u32) -> u32 {
     if block == 0 {
         return 0;
     }
     if 16 < block {
         return 0;
     }
-    match kind {
-        1 => block,
-        2 => block + 100,
-        3 => {
+    match found {
+        Found::Nothing => 0,
+        Found::Own => block,
+        Found::Foreign => block + 100,
+        Found::First => {
             if way == 0 {
                 return block;
             }
             0
         }
-        _ => 0,
     }
 }
 
-// The cache as it is found, `kind` telling how it was used.
-pub(crate) fn found(kind: u32, sets: u32, ways: u64) -> [u32; 16] {
+// The cache as it is found.
+pub(crate) fn cache_found(found: Found, sets: u32, ways: u64) -> [u32; 16] {
     let blocks = blocks_of(sets);
     let mut cache: [u32; 16] = [0; 16];
-    let mut i: usize = 0;
-    while i < 16 {
+    for (i, place) in cache.iter_mut().enumerate() {
         let way = i % 4;
         if (way as u64) < ways {
-            cache[i] = held_before(kind, way, blocks[i]);
+            *place = held_before(found, way, blocks[i]);
         }
-        i += 1;
     }
     cache
 }
@@ -107,17 +127,10 @@ fn victim(cache: &[u32; 16], base: usize, ways: u64, revision: u32, drawn: u64) 
     if revision == 1 {
         return drawn;
     }
-    if is_empty(cache, base, ways, 0) {
-        return 0;
-    }
-    if is_empty(cache, base, ways, 1) {
-        return 1;
-    }
-    if is_empty(cache, base, ways, 2) {
-        return 2;
-    }
-    if is_empty(cache, base, ways, 3) {
-        return 3;
+    for way in 0..4 {
+        if is_empty(cache, base, ways, way) {
+            return way as u64;
+        }
     }
     drawn
 }

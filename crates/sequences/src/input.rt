@@ -14,16 +14,8 @@ use rules::{Cache, Start};
 // The place of the first access.
 pub(crate) const FIRST_ACCESS: u64 = 36;
 
-// How the cache is found: 1 says that it was used.
-fn start_of(used: u32) -> Start {
-    if used == 1 {
-        return Start::Warm;
-    }
-    Start::Cold
-}
-
 pub fn cache_of(row: &[u32]) -> Cache {
-    let start = start_of(read(row, 3));
+    let start = Start::from(read(row, 3) == 1);
     Cache {
         sets: read(row, 0),
         ways: read(row, 1),
@@ -89,15 +81,9 @@ fn is_tracked(tracked: &[u32], block: u32) -> bool {
 // Whether every access of a row is tracked.
 pub fn all_tracked(row: &[u32]) -> bool {
     let tracked = tracked_of(row);
-    let accesses = accesses_of(row);
-    let mut i: usize = 0;
-    while i < accesses.len() {
-        if !is_tracked(tracked, accesses[i]) {
-            return false;
-        }
-        i += 1;
-    }
-    true
+    accesses_of(row)
+        .iter()
+        .all(|block| is_tracked(tracked, *block))
 }
 
 pub(crate) fn put(row: &mut [u32], at: usize, number: u32) {
@@ -108,10 +94,8 @@ pub(crate) fn put(row: &mut [u32], at: usize, number: u32) {
 
 // The numbers of a list go to the places from `to` on, up to below `end`.
 fn put_list(row: &mut [u32], to: usize, end: usize, list: &[u32]) {
-    let mut at = to;
-    while at < end {
+    for at in to..end {
         put(row, at, read(list, at - to));
-        at += 1;
     }
 }
 

@@ -17,11 +17,9 @@ fn block_of(digit: u64) -> u32 {
 pub fn write_list(row: &mut [u32], number: u64) {
     let blocks = blocks_of(row);
     let mut left = number;
-    let mut at: usize = 36;
-    while at < 52 {
+    for at in 36..52 {
         put(row, at, block_of(digit(left, blocks)));
         left = other_digits(left, blocks);
-        at += 1;
     }
 }
 

@@ -7,18 +7,12 @@ pub const TOO_LARGE: u64 = 18446744073709551615;
 pub const WHOLE: u64 = 281474976710656;
 
 pub fn plus(a: u64, b: u64) -> u64 {
-    if TOO_LARGE - a < b {
-        return TOO_LARGE;
-    }
-    a + b
+    a.saturating_add(b)
 }
 
 // a - b, and 0 where `b` is the larger.
 pub fn less(a: u64, b: u64) -> u64 {
-    if a < b {
-        return 0;
-    }
-    a - b
+    a.saturating_sub(b)
 }
 
 // a × b, where `a` is at most WHOLE and `b` below 65,536.
@@ -70,31 +64,19 @@ pub(crate) fn other_digits(n: u64, base: u64) -> u64 {
 
 // How many numbers of `digits` digits there are to the base `base`.
 pub fn power(base: u64, digits: usize) -> u64 {
-    let mut all: u64 = 1;
-    let mut i: usize = 0;
-    while i < digits {
-        all = times(all, base);
-        i += 1;
-    }
-    all
+    (0..digits).fold(1, |all, _| times(all, base))
 }
 
 // The number at place `at` of a list, and 0 past its end.
 pub fn read(list: &[u32], at: usize) -> u32 {
-    if at < list.len() {
-        return list[at];
-    }
-    0
+    list.get(at).copied().unwrap_or(0)
 }
 
 pub fn wide(n: u32) -> u64 {
-    n as u64
+    u64::from(n)
 }
 
 // A number as 32 bits; the largest stands for one that does not fit.
 pub(crate) fn narrow(n: u64) -> u32 {
-    if 4294967295 < n {
-        return 4294967295;
-    }
-    n as u32
+    u32::try_from(n).unwrap_or(u32::MAX)
 }

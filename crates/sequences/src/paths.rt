@@ -23,17 +23,9 @@ fn is_chosen(chosen: u64, node: u32) -> bool {
 
 // Whether the edges, each as two numbers, have the one from `from` to `to`.
 fn has_edge(edges: &[u32], from: u32, to: u32) -> bool {
-    let count = edges.len() / 2;
-    let mut e: usize = 0;
-    while e < count {
-        if edges[e * 2] == from {
-            if edges[e * 2 + 1] == to {
-                return true;
-            }
-        }
-        e += 1;
-    }
-    false
+    edges
+        .chunks_exact(2)
+        .any(|edge| edge == [from, to].as_slice())
 }
 
 // The node that is reached once `node` is looked at, where `at` was reached before it.
@@ -53,9 +45,7 @@ pub fn is_path(chosen: u64, edges: &[u32], last: u32) -> bool {
         return false;
     }
     let mut at: u32 = 0;
-    let mut node: u32 = 0;
-    while node < last {
-        node += 1;
+    for node in 1..=last {
         at = reached(chosen, edges, at, node);
     }
     at == last
@@ -64,14 +54,12 @@ pub fn is_path(chosen: u64, edges: &[u32], last: u32) -> bool {
 // Copies the `count` accesses from place `from` on to the end of a path that has `size` accesses.
 fn copy(path: &mut [u32], size: u64, accesses: &[u32], from: u64, count: u64) {
     let to = plus(FIRST_ACCESS, size);
-    let mut i: u64 = 0;
-    while i < count {
+    for i in 0..count {
         put(
             path,
             plus(to, i) as usize,
             read(accesses, plus(from, i) as usize),
         );
-        i += 1;
     }
 }
 
@@ -99,12 +87,10 @@ fn extend(
 fn copy_chosen(path: &mut [u32], chosen: u64, runs: &[u32], accesses: &[u32]) -> u64 {
     let mut size: u64 = 0;
     let mut from: u64 = 0;
-    let mut node: usize = 0;
-    while node < runs.len() {
-        let count = wide(runs[node]);
+    for (node, run) in runs.iter().enumerate() {
+        let count = wide(*run);
         size = extend(path, size, chosen, node, accesses, from, count);
         from = plus(from, count);
-        node += 1;
     }
     size
 }

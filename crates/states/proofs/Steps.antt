@@ -2,10 +2,9 @@
 use Rattle.std.proofs.Common.{◌≡◌, ℕ, suc, ◌+◌, ◌%◌, ◌^◌, ◌<◌, ◌≤◌, Bool, true, false, cond, not, eqb, sym, refl, ap, ◌∙◌, ap₂, arith, eq-eqb, ne_eqb, eqb-true}
 use Rattle.basics.proofs.Bools.{and_left, and_right}
 use Rattle.rules.specs.declared.Filled.{Filled}
-use Rattle.rules.specs.declared.Place.{Place}
 use Rattle.rules.specs.declared.State.{State}
 use Rattle.rules.specs.declared.Target.{Target}
-use Rattle.rules.specs.Contents.{hits, with}
+use Rattle.rules.specs.Contents.{hits, with, Place}
 use Rattle.rules.specs.Shape.{Listed}
 use Rattle.rules.specs.Step.{at_risk, left_over}
 use Rattle.rules.specs.Table.{state, units_of}

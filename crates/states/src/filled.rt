@@ -21,10 +21,8 @@ pub(crate) fn larger_bytes(v: u64, w: u64) -> u64
     ensures { result ≡ word_from 0 (larger_of (bytes_of 8 v) (bytes_of 8 w)) }
 {
     let mut word: u64 = 0;
-    let mut left: usize = 8;
-    while 0 < left {
-        left -= 1;
-        word = word * 256 + larger(byte_at(v, left), byte_at(w, left));
+    for at in (0..8).rev() {
+        word = word * 256 + larger(byte_at(v, at), byte_at(w, at));
     }
     word
 }
@@ -107,10 +105,8 @@ pub(crate) fn word_of(first: u32, sets: u32, n: u64) -> u64
     ensures { result ≡ word_from 0 (take 8 (drop first (sixteen_of sets n))) }
 {
     let mut word: u64 = 0;
-    let mut i: u32 = 0;
-    while i < 8 {
+    for i in 0..8 {
         word = word * 256 + number_if(sets, first + i, n);
-        i += 1;
     }
     word
 }

@@ -5,23 +5,15 @@ ghost use Rattle.rules.specs.Questions.{all_most, fitting};
 
 use rules::{Filled, State};
 
-// Whether each of the eight filled numbers in `word` is at most 16: the last of those that are left, in turn.
+// Whether each of the eight filled numbers in `word` is at most 16.
 pub(crate) fn all_small(word: u64) -> bool
     ensures { result ≡ all_most 16 (bytes_of 8 word) }
 {
-    let mut left = word;
-    let mut n: usize = 8;
-    while 0 < n {
-        if 16 < left % 256 {
-            return false;
-        }
-        left /= 256;
-        n -= 1;
-    }
-    true
+    word.to_be_bytes().iter().all(|n| *n <= 16)
 }
 
 // Whether each of the sixteen filled numbers is at most 16.
+#[tactic(auto, using(crate::proofs::Fitting::all_numbers))]
 pub(crate) fn numbers_fit(filled: Filled) -> bool
     ensures { result ≡ all_most 16 (numbers_of filled) }
 {

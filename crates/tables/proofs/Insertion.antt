@@ -1,6 +1,6 @@
 -- Where a state belongs in a table, and what the table is with it: added to the state at that place, or put in before it. For any kind of state: only its
 -- place in the order and its units count.
-use mathlib.Core.Path.{◌≡◌, refl, sym, ap, ◌∙◌}
+use mathlib.Core.Path.{◌≡◌, refl, sym, ap, ap₂, ◌∙◌}
 use mathlib.Core.Logic.{◌⊎◌, inl, inr}
 use mathlib.Core.Bool.{Bool, true, false, cond, ◌&&◌, true≢false}
 use mathlib.Core.List.{List, [], ◌∷◌, ◌++◌, append_assoc}
@@ -10,7 +10,8 @@ use native.Mathlib.Numerals.{add-one}
 use native.Mathlib.Omega.{arith}
 use lib.Dec.{eqb, ltb}
 use lib.ListN.{length, set, take, drop, length-set, length-append, length-drop, take-append-drop, get_or-append}
-use lib.Seq.{take-suc, append_snoc, set_at, take_at, drop-cons, get_or-take, drop-length, length-take-le, take-take, take-set-lt}
+use lib.Seq.{paste, take-suc, append_snoc, set_at, take_at, drop-cons, get_or-take, drop-length, length-take-le, take-take, take-set-lt}
+use Rattle.std.proofs.lemmas.List.{drop-take}
 use borrow.Author.Tests.{lt-ltb, eq-eqb, ne_eqb, ltb-true}
 use Rattle.basics.proofs.Bools.{and_left, and_right}
 use Rattle.rules.specs.Ordered.{Order, before, same, after, by_number, then_by, is_before, rises, insert, inserted, insert_all}
@@ -320,6 +321,20 @@ module _ {A : Type 0} (states : Listing A) where
     moved_turn (suc j) w w' x l h p q r =
         let e : suc j - 1 ≡ j = omega arith in
         rw e (r ∙ rw (q, e, p) (moved_more j h))
+
+    -- those from place j on, copied to the place behind it at once
+    pub moved_pasted : (j : ℕ) → j ≤ n → paste t (j + 1) (drop j t) (n - j) ≡ moved j n t
+    unfolding moved
+    moved_pasted j h =
+        append_assoc (take (j + 1) t) (take (n - j) (drop j t)) (drop (j + 1 + (n - j)) t)
+        ∙ ap₂ (λ (front rest : List A). front ++ rest) (ap (λ (k : ℕ). take k t) (add-one j))
+        (ap₂ (λ (front rest : List A). front ++ rest) (sym (drop-take j (n - j) t) ∙ ap (λ (k : ℕ). drop j (take k t)) all) (ap (λ (k : ℕ). drop k t) behind))
+      where
+        all : j + (n - j) ≡ n
+        all = omega arith
+
+        behind : j + 1 + (n - j) ≡ suc n
+        behind = omega arith
 
     -- s is stored at the place i that the loop has come to
     pub moved_end : (i j : ℕ) (s : A) (w w' : List A) → i ≡ j → j ≤ n → w ≡ moved j n t → w' ≡ set w i s

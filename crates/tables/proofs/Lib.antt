@@ -10,6 +10,8 @@ pub mod Insertion
 pub mod Reading
 -- The scratch of the working room
 pub mod Scratch
+-- States moved within words
+pub mod Moving
 -- Nodes and their tables
 pub mod Nodes
 -- Joining two tables

@@ -1,26 +1,25 @@
 -- Masks as 64-bit numbers: a shifted 1, and the count of set bits. Looking up a block from the front of the list on, and the mask of a set
 -- from its end.
 use mathlib.Core.Path.{◌≡◌, refl, sym, ap, ap₂, ◌∙◌}
-use mathlib.Core.Bool.{Bool, true, false, cond, ◌&&◌}
+use mathlib.Core.Bool.{Bool, true, false, cond, ◌&&◌, not}
 use mathlib.Core.List.{List, [], ◌∷◌}
 use Prim.Native.Nat.{ℕ, zero, suc, ◌+◌, ◌-◌, ◌*◌, ◌/◌, ◌%◌, ◌^◌, ◌≤◌, ◌<◌}
-use native.Mathlib.Nat.{one-mul, zero-add, add-zero, le_refl, lt_of_lt_of_le, mod-one, pow-succ'}
+use native.Mathlib.Nat.{one-mul, le_refl, lt_of_lt_of_le, mod-one, pow-succ'}
 use native.Mathlib.Numerals.{add-one}
 use native.Mathlib.Omega.{arith}
 use lib.Bits.{bit_and, and_mask}
 use lib.Count.{ones, ones_step, ones-le}
-use lib.Dec.{lit<, eqb, leb}
+use lib.Dec.{lit<, eqb, leb, ltb}
 use lib.ListN.{length, get_or, drop, length-drop, drop_of_length-le}
 use lib.Pow.{shl_exact, field, mod-mod-pow, pow_mono, pow_pos}
 use lib.Seq.{drop-cons}
-use borrow.Author.Tests.{eq-eqb, ne_eqb, leb-true, le-leb}
+use borrow.Author.Tests.{leb-true, le-leb, lt-ltb, le-ltb, ltb-true, ltb-false}
+use Rattle.std.specs.Prelude.{Option, Some, None, position}
+use Rattle.std.specs.List.{position_or_len}
 use Rattle.basics.proofs.Bools.{and_left, and_right}
 use Rattle.basics.proofs.Sums.{sum_on}
-use Rattle.rules.specs.declared.Last.{Last}
-use Rattle.rules.specs.declared.Place.{Place}
-use Rattle.rules.specs.declared.Place.TheVariants.{At as at, Untracked as untracked}
 use Rattle.rules.specs.declared.Target.{Target}
-use Rattle.rules.specs.Contents.{among, bit, has, with, without, size, find, further, mask_of, of_set, is_last, target_of}
+use Rattle.rules.specs.Contents.{among, bit, has, with, without, size, find, further, mask_of, of_set, is_last, target_of, Last, Place}
 use Rattle.rules.specs.Refusals.{set_counts}
 use Rattle.rules.specs.Shape.{Listed}
 use Rattle.rules.proofs.Bits.{bit_low, bit_rest}
@@ -62,34 +61,30 @@ size_ones C = ones_low 16 C ∙ ap (λ (k : ℕ). sum_on k (bit C) (λ i. 1)) (s
 
 -- ---- looking up
 
--- i places further on
-abbrev pub on_by : ℕ → Place → Place
-on_by i (at j) = at (i + j)
-on_by i untracked = untracked
+-- a place in the list, or none
+abbrev pub as_place : Option ℕ → Place
+as_place (Some i) = Some i
+as_place None = None
 
-pub find_start : (b : ℕ) (ts : List ℕ) → find ts b ≡ on_by 0 (find (drop 0 ts) b)
-find_start b ts = go (find ts b)
+one_on : (p n : ℕ) (x : Place) → as_place (cond (ltb p n) (Some p) None) ≡ x → as_place (cond (ltb (1 + p) (suc n)) (Some (1 + p)) None) ≡ further x
+one_on p n x = go (ltb p n) refl
   where
-    go : (x : Place) → x ≡ on_by 0 x
-    go (at i) = ap at (sym (zero-add i))
-    go untracked = refl
+    go : (c : Bool) → ltb p n ≡ c → as_place (cond c (Some p) None) ≡ x → as_place (cond (ltb (1 + p) (suc n)) (Some (1 + p)) None) ≡ further x
+    go true q e = rw (lt-ltb (1 + p) (suc n) (omega (arith, ltb-true p n q))) (ap Some (omega arith) ∙ ap further e)
+    go false q e = rw (le-ltb (1 + p) (suc n) (omega (arith, ltb-false p n q))) (ap further e)
 
-module _ (b : ℕ) (ts : List ℕ) (i : ℕ) (x : Place) (e : x ≡ on_by i (find (drop i ts) b)) where
-  pub find_here : i < length ts → get_or ts i 0 ≡ b → at i ≡ x
-  unfolding find
-  find_here l q = sym (e ∙ rw (drop-cons ts i 0 l, eq-eqb (get_or ts i 0) b q) (ap at (add-zero i)))
-
-  pub find_next : i < length ts → (get_or ts i 0 ≡ b → ⊥) → x ≡ on_by (i + 1) (find (drop (i + 1) ts) b)
-  unfolding find
-  find_next l q = e ∙ rw (add-one i, drop-cons ts i 0 l, ne_eqb (get_or ts i 0) b q) (step (find (drop (suc i) ts) b))
-    where
-      step : (y : Place) → on_by i (further y) ≡ on_by (suc i) y
-      step (at j) = ap at (omega arith)
-      step untracked = refl
-
-  pub find_none : length ts ≤ i → untracked ≡ x
-  unfolding find
-  find_none l = sym (e ∙ rw (drop_of_length-le ts l))
+-- the first place at which the list has the block is where it is found
+pub find_first : (b : ℕ) (ts : List ℕ) → as_place (position (λ t. eqb t b) ts) ≡ find ts b
+unfolding find
+find_first b [] = refl
+find_first b (t ∷ ts) = go (eqb t b) (find_first b ts)
+  where
+    go : (c : Bool)
+        → as_place (position (λ t. eqb t b) ts) ≡ find ts b
+        → as_place (cond (ltb (cond (not c) (1 + position_or_len (λ t. eqb t b) ts) 0) (suc (length ts))) (Some (cond (not c) (1 + position_or_len (λ t. eqb t b) ts) 0)) None)
+        ≡ cond c (Some 0) (further (find ts b))
+    go true e = rw (lt-ltb 0 (suc (length ts)) (omega arith))
+    go false e = one_on (position_or_len (λ t. eqb t b) ts) (length ts) (find ts b) e
 
 -- ---- the blocks of a set
 
@@ -171,8 +166,8 @@ module _ (C i : ℕ) (l : i < 16) where
 
 -- a block that was looked up among sixteen
 pub in_word_lem : (x : Place) → Listed 16 x → in_word x ≡ x
-in_word_lem (at i) h = ap at (in_mask i (h i refl))
-in_word_lem untracked h = refl
+in_word_lem (Some i) h = ap Some (in_mask i (h i refl))
+in_word_lem None h = refl
 
 module _ (C : ℕ) (x : Place) (h : Listed 16 x) where
   pub has_listed : (a r : Bool) → r ≡ has C a (in_word x) → r ≡ has C a x

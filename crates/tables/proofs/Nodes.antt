@@ -8,7 +8,7 @@ use native.Mathlib.Nat.{zero-add, suc-add, not-suc-le-zero, le_of_suc-le-suc, eq
 use native.Mathlib.Numerals.{add-one}
 use native.Mathlib.Omega.{arith}
 use lib.Dec.{eqb}
-use lib.ListN.{length, get_or, set, take, drop, replicate, length-append, length-drop, length-take, length-replicate, get_or-replicate, replicate-append-replicate, get_or-append, drop_of_length-le}
+use lib.ListN.{length, get_or, set, take, drop, replicate, length-append, length-drop, length-take, length-replicate, replicate-append-replicate, get_or-append, drop_of_length-le}
 use lib.Seq.{paste, paste-suc, length_paste_head, get_or-take, get_or-drop, get_or_at, get_or-append-add, length-take-le, take_at, take-take, take-nil, take-append-le, drop_at, drop-append-le, drop-cons}
 use borrow.Author.Tests.{eq-eqb, ne_eqb}
 use Rattle.rules.specs.AnyTable.{Listing, at as at_of}
@@ -82,21 +82,6 @@ module _ {A : Type 0} (states : Listing A) where
         → U' ≡ paste T to (drop from T) (i + 1)
     copy_turn U U' s p q r =
         r ∙ rw (add-one i, q, p, copy_reads) (paste-suc T to (drop from T) i none (omega arith) (omega (arith, length-drop from T)))
-
-  -- blanks pasted one by one
-  module _ (T : List A) (at n i : ℕ) (room : at + 64 ≤ length T) (low : n ≤ i) (l : i < 64) where
-    pub seal_turn : (U U' : List A) → U ≡ paste T (at + n) (replicate 64 none) (i - n) → U' ≡ set U (at + i) none
-        → U' ≡ paste T (at + n) (replicate 64 none) (i + 1 - n)
-    seal_turn U U' p q =
-        q ∙ rw (p, next, at_place)
-        (ap (set (paste T (at + n) (replicate 64 none) (i - n)) (at + n + (i - n))) (sym (get_or-replicate 64 (i - n) none none (omega arith)))
-        ∙ paste-suc T (at + n) (replicate 64 none) (i - n) none (omega arith) (omega (arith, length-replicate 64 none)))
-      where
-        next : i + 1 - n ≡ suc (i - n)
-        next = omega arith
-
-        at_place : at + i ≡ at + n + (i - n)
-        at_place = omega arith
 
   -- ---- how many states stand before the first of 0 units
 

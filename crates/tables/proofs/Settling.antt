@@ -1,14 +1,13 @@
 -- A table in its place, of any kind: what the folds leave in the scratch is copied there; each access starts from what the one before it left; and what a node starts
 -- from stands in its slot, the start or its predecessors' tables joined.
+use Rattle.std.specs.Prelude.{Some}
 use mathlib.Core.Path.{◌≡◌, refl, sym, ap, ap₂, ◌∙◌, subst}
 use mathlib.Core.List.{List, [], ◌∷◌}
 use Prim.Native.Nat.{ℕ, zero, suc, ◌+◌, ◌*◌, ◌≤◌, ◌<◌}
 use native.Mathlib.Omega.{arith}
 use lib.ListN.{length, get_or, set, take, drop, length-drop, drop_of_length-le}
 use lib.Seq.{paste, drop-cons}
-use Rattle.rules.specs.declared.Last.{Last}
-use Rattle.rules.specs.declared.Last.TheVariants.{Block as block}
-use Rattle.rules.specs.Contents.{target_of}
+use Rattle.rules.specs.Contents.{target_of, Last}
 use Rattle.rules.specs.AnyTable.{Listing, Kind, Work, Worked, Entry, Entries, later, behind, total, folded, advance, run, table_at, join_one, join_all_by, enter_by}
 use Rattle.rules.specs.Shape.{Every, Present}
 use Rattle.rules.proofs.AnyTable.{joins_alike}
@@ -76,7 +75,7 @@ module _ {A : Type 0} (kind : Kind A) where
     Ran i k v l w = run kind N Z K ts k (drop i bs) v ≡ run kind N Z K ts l bs w
 
     pub ran_next : (i : ℕ) (k : Last) (v : Work A) (l : Last) (w : Work A) (b : ℕ) → i < length bs → b ≡ get_or bs i 0 → Ran i k v l w
-        → Ran (suc i) (block b) (advance kind N K (target_of Z ts k b) v) l w
+        → Ran (suc i) (Some b) (advance kind N K (target_of Z ts k b) v) l w
     unfolding run
     ran_next i k v l w b here e h = rw e (sym (ap (λ (cs : List ℕ). run kind N Z K ts k cs v) (drop-cons bs i 0 here))) ∙ h
 

@@ -2,8 +2,7 @@
 // same for any kind of state can only be said once in laws: `proofs` has those, and `estimate` and `best` cite them.
 #![tactic(auto)]
 
-ghost use Rattle.std.specs.Prelude.{◌≡◌, true, cond, ◌&&◌, ◌≤◌, ◌<◌, ◌%◌, min, eqb, leb, length};
-ghost use Rattle.rules.specs.declared.Place.TheVariants.{At};
+ghost use Rattle.std.specs.Prelude.{◌≡◌, true, cond, ◌&&◌, ◌≤◌, ◌<◌, ◌%◌, min, eqb, leb, length, Some};
 ghost use Rattle.rules.specs.Contents.{among, bit, find, has, is_last, size, with, without, of_set};
 ghost use Rattle.rules.specs.Refusals.{set_counts};
 ghost use Rattle.tables.specs.Aim.{in_word, aimed_at};
@@ -11,7 +10,7 @@ ghost use Rattle.tables.specs.Edges.{next_edge};
 ghost use Rattle.tables.specs.Following.{next_held, top_held};
 
 use graph_check::is_set_count;
-use rules::{Last, Place, Target, Units};
+use rules::{Target, Units};
 
 // Whether the block at place `at` is held; a mask has 64 places.
 pub fn has_place(mask: u64, at: usize) -> bool
@@ -22,7 +21,7 @@ pub fn has_place(mask: u64, at: usize) -> bool
 
 // The contents with the block at place `at`.
 fn with_place(mask: u64, at: usize) -> u64
-    ensures { result ≡ with mask (At (at % 64)) }
+    ensures { result ≡ with mask (Some (at % 64)) }
 {
     mask | (1 << (at % 64))
 }
@@ -59,37 +58,33 @@ pub fn size_of(mask: u64) -> u64
 }
 
 // Whether the block that was looked up is surely held: an untracked one where it was accessed directly before.
-pub fn has_block(mask: u64, again: bool, x: Place) -> bool
+pub fn has_block(mask: u64, again: bool, x: Option<usize>) -> bool
     ensures { result ≡ has mask again (in_word x) }
 {
     match x {
-        Place::At(i) => has_place(mask, i),
-        Place::Untracked => again,
+        Some(i) => has_place(mask, i),
+        None => again,
     }
 }
 
 // The contents with the block that was looked up: an untracked one adds nothing.
-pub fn with_block(mask: u64, x: Place) -> u64
+pub fn with_block(mask: u64, x: Option<usize>) -> u64
     ensures { result ≡ with mask (in_word x) }
 {
     match x {
-        Place::At(i) => with_place(mask, i),
-        Place::Untracked => mask,
+        Some(i) => with_place(mask, i),
+        None => mask,
     }
 }
 
 // Where a block stands in the list of tracked blocks.
-fn look_up(tracked: &[u32], block: u32) -> Place
+fn look_up(tracked: &[u32], block: u32) -> Option<usize>
     ensures { result ≡ find tracked.now block }
 {
-    let mut i: usize = 0;
-    while i < tracked.len() {
-        if tracked[i] == block {
-            return Place::At(i);
-        }
-        i += 1;
+    match tracked.iter().position(|known| *known == block) {
+        Some(i) => Some(i),
+        None => None,
     }
-    Place::Untracked
 }
 
 // 1 if the block belongs to set `set` of `sets`, otherwise 0: the set count is a power of two, so that the low bits tell.
@@ -112,21 +107,19 @@ fn mates_of(tracked: &[u32], sets: u32, set: u32) -> u64
         return (1 << tracked.len()) - 1;
     }
     let mut mask: u64 = 0;
-    let mut i: usize = tracked.len();
-    while 0 < i {
-        i -= 1;
+    for i in (0..tracked.len()).rev() {
         mask = mask * 2 + in_set(tracked[i], sets, set);
     }
     mask
 }
 
 // Whether `block` was accessed directly before.
-pub fn is_last(last: Last, block: u32) -> bool
+pub fn is_last(last: Option<u32>, block: u32) -> bool
     ensures { result ≡ is_last last block }
 {
     match last {
-        Last::Unknown => false,
-        Last::Block(before) => before == block,
+        None => false,
+        Some(before) => before == block,
     }
 }
 
@@ -141,7 +134,7 @@ fn in_range(tracked: usize, sets: u32) -> bool
 }
 
 // What an access to `block` is after, where `last` was accessed directly before.
-pub fn aim(tracked: &[u32], sets: u32, last: Last, block: u32) -> Target
+pub fn aim(tracked: &[u32], sets: u32, last: Option<u32>, block: u32) -> Target
     ensures { result ≡ aimed_at sets tracked.now last block }
 {
     if in_range(tracked.len(), sets) {
@@ -154,7 +147,7 @@ pub fn aim(tracked: &[u32], sets: u32, last: Last, block: u32) -> Target
         };
     }
     Target {
-        place: Place::Untracked,
+        place: None,
         again: false,
         set: 0,
         mates: 0,
@@ -179,6 +172,7 @@ pub fn next_edge(edges: &[u32], to: usize, start: usize) -> usize
         return edges.len();
     }
     let mut e: usize = start;
+    // Kept as a while: the answer is a place in the flat list, and chunks of two would have to be told from where, and turned back into places.
     while e + 1 < edges.len() {
         if edges[e + 1] as usize == to {
             return e;

@@ -1,5 +1,6 @@
 -- The lines of a table, in misses or in cycles, from the units at each miss count: what is left of WHOLE behind a count is what stands above it. The
 -- spread of a table is answered, and stands at the front of its room.
+use Rattle.std.specs.Prelude.{Err, Ok, Result}
 use mathlib.Core.Path.{◌≡◌, refl, sym, ap, ap₂, ◌∙◌}
 use mathlib.Core.Bool.{true}
 use mathlib.Core.List.{List, [], ◌∷◌, ◌++◌, append-nil, append_assoc}
@@ -13,9 +14,7 @@ use Rattle.basics.proofs.Sums.{sum_append}
 use Rattle.rules.specs.declared.Core.{Core}
 use Rattle.rules.specs.declared.State.{State}
 use Rattle.rules.specs.declared.Refusal.{Refusal}
-use Rattle.rules.specs.declared.Count.{Count}
-use Rattle.rules.specs.declared.Count.TheVariants.{Misses, Refused}
-use Rattle.rules.specs.Answers.{count_says}
+use Rattle.rules.specs.Answers.{number_says}
 use Rattle.rules.specs.Units.{whole}
 use Rattle.rules.specs.Counts.{spread as spread_any}
 use Rattle.rules.specs.Table.{total}
@@ -97,15 +96,15 @@ module _ (T : List State) (full : total T ≡ whole) where
 
 -- ---- the spread of a table, as the question answers it
 
-module _ (T : List State) (good : is_table T ≡ true) (room : List ℕ) (long : 4097 ≤ length room) (a : Count) (ns : List ℕ)
+module _ (T : List State) (good : is_table T ≡ true) (room : List ℕ) (long : 4097 ≤ length room) (a : Result ℕ Refusal) (ns : List ℕ)
     (is : record { answer = a; room = ns } ≡ spread_answer T room) where
-  answered : ◌≡◌ {A = SpreadAnswer} (record { answer = a; room = ns }) (record { answer = Misses (largest T); room = counts_below (length room) T })
+  answered : ◌≡◌ {A = SpreadAnswer} (record { answer = a; room = ns }) (record { answer = Ok (largest T); room = counts_below (length room) T })
   answered = is ∙ sym (spread_answered T good room (omega (arith, table_largest T good)) (largest T) refl (counts_below (length room) T) refl)
 
-  pub last_counted : (last : ℕ) → a ≡ Misses last → Counted T (last + 1) ns
+  pub last_counted : (last : ℕ) → a ≡ Ok last → Counted T (last + 1) ns
   unfolding spread_any
   last_counted last e =
-      let most : last ≡ largest T = ap (λ (c : Count). (count_says c).value) (sym e ∙ ap (λ (s : SpreadAnswer). s.answer) answered) in
+      let most : last ≡ largest T = ap (λ (c : Result ℕ Refusal). (number_says c).value) (sym e ∙ ap (λ (s : SpreadAnswer). s.answer) answered) in
       let rest : length room ≡ length room - suc (largest T) + suc (largest T) = omega (arith, table_largest T good) in
       record {
         count = omega arith;
@@ -117,8 +116,8 @@ module _ (T : List State) (good : is_table T ≡ true) (room : List ℕ) (long :
       omega_count : last ≡ largest T → last + 1 ≡ suc (largest T)
       omega_count most = omega arith
 
-  pub not_refused : (why : Refusal) → a ≡ Refused why → ⊥
-  not_refused why e = numbered why (ap (λ (c : Count). (count_says c).number) (sym e ∙ ap (λ (s : SpreadAnswer). s.answer) answered))
+  pub not_refused : (why : Refusal) → a ≡ Err why → ⊥
+  not_refused why e = numbered why (ap (λ (c : Result ℕ Refusal). (number_says c).number) (sym e ∙ ap (λ (s : SpreadAnswer). s.answer) answered))
 
 pub counted_long : (T : List State) (n : ℕ) (ns : List ℕ) → Counted T n ns → n ≡ length (take n ns)
 unfolding spread_any

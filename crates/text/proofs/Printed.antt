@@ -1,4 +1,5 @@
 -- What is printed for a list of numbers, case by case: it is not complete, refused by the graph call, or accepted.
+use Rattle.std.specs.Prelude.{Err, Ok}
 use mathlib.Core.Path.{◌≡◌, refl, sym, ap, ap₂, ◌∙◌}
 use mathlib.Core.Bool.{Bool, true, false, cond, ◌&&◌}
 use mathlib.Core.List.{List, ◌++◌}
@@ -9,11 +10,7 @@ use Rattle.rules.specs.declared.State.{State}
 use Rattle.rules.specs.declared.Units.{Units}
 use Rattle.rules.specs.declared.Refusal.{Refusal}
 use Rattle.rules.specs.declared.Refusal.TheVariants.{Text}
-use Rattle.rules.specs.declared.Verdict.{Verdict}
-use Rattle.rules.specs.declared.Verdict.TheVariants.{Accepted, Refused}
-use Rattle.rules.specs.declared.Outcome.{Outcome}
-use Rattle.rules.specs.declared.Outcome.TheVariants.{Finished, Refused as RefusedOutcome}
-use Rattle.rules.specs.Answers.{number_of, outcome_says}
+use Rattle.rules.specs.Answers.{number_of, outcome_says, Outcome, Verdict}
 use Rattle.rules.specs.Input.{Input}
 use Rattle.rules.specs.Graph.{finished}
 use Rattle.rules.specs.Refusals.{verdict, answered, outcome}
@@ -37,22 +34,22 @@ use Rattle.text.specs.Working.{Finishes}
 -- ---- what the graph call answers, and what is told of the input
 
 module _ (i : Input) where
-  told_refused : (text : List ℕ) (why : Refusal) (v : Verdict) → answered v i ≡ RefusedOutcome why → refused_line (number_of why) ≡ told v text
-  told_refused text why Accepted e = absurd (numbered why (sym (ap (λ (q : Outcome). (outcome_says q).number) e)))
-  told_refused text why (Refused r) e = ap (λ (q : Outcome). refused_line (outcome_says q).number) (sym e)
+  told_refused : (text : List ℕ) (why : Refusal) (v : Verdict) → answered v i ≡ Err why → refused_line (number_of why) ≡ told v text
+  told_refused text why (Ok tt) e = absurd (numbered why (sym (ap (λ (q : Outcome). (outcome_says q).number) e)))
+  told_refused text why (Err r) e = ap (λ (q : Outcome). refused_line (outcome_says q).number) (sym e)
 
-  refused_unaccepted : (why : Refusal) (v : Verdict) → answered v i ≡ RefusedOutcome why → accepts v ≡ false
-  refused_unaccepted why Accepted e = absurd (numbered why (sym (ap (λ (q : Outcome). (outcome_says q).number) e)))
-  refused_unaccepted why (Refused r) e = refl
+  refused_unaccepted : (why : Refusal) (v : Verdict) → answered v i ≡ Err why → accepts v ≡ false
+  refused_unaccepted why (Ok tt) e = absurd (numbered why (sym (ap (λ (q : Outcome). (outcome_says q).number) e)))
+  refused_unaccepted why (Err r) e = refl
 
 -- ---- for a list of numbers: what is printed, and whether it is worked
 
-module _ (ch : Choice) (ns : List ℕ) (why : Refusal) (f : RefusedOutcome why ≡ numbers_outcome ch ns) where
+module _ (ch : Choice) (ns : List ℕ) (why : Refusal) (f : Err why ≡ numbers_outcome ch ns) where
   pub printed_refused : (text : Input → List ℕ) (n : ℕ) → n ≡ number_of why → refused_line n ≡ of_numbers text ch ns
   unfolding of_numbers of_input outcome numbers_outcome
   printed_refused text n e = ap refused_line e ∙ go (complete ns) f
     where
-      go : (b : Bool) → RefusedOutcome why ≡ cond b (answered (verdict (input_from ch ns)) (input_from ch ns)) (RefusedOutcome Text)
+      go : (b : Bool) → Err why ≡ cond b (answered (verdict (input_from ch ns)) (input_from ch ns)) (Err Text)
           → refused_line (number_of why) ≡ cond b (told (verdict (input_from ch ns)) (text (input_from ch ns))) (refused_line (number_of Text))
       go true g = told_refused (input_from ch ns) (text (input_from ch ns)) why (verdict (input_from ch ns)) (sym g)
       go false g = ap (λ (q : Outcome). refused_line (outcome_says q).number) g
@@ -61,23 +58,23 @@ module _ (ch : Choice) (ns : List ℕ) (why : Refusal) (f : RefusedOutcome why �
   unfolding numbers_worked outcome numbers_outcome
   refused_unworked = go (complete ns) f
     where
-      go : (b : Bool) → RefusedOutcome why ≡ cond b (answered (verdict (input_from ch ns)) (input_from ch ns)) (RefusedOutcome Text)
+      go : (b : Bool) → Err why ≡ cond b (answered (verdict (input_from ch ns)) (input_from ch ns)) (Err Text)
           → (b && accepts (verdict (input_from ch ns))) ≡ false
       go true g = refused_unaccepted (input_from ch ns) why (verdict (input_from ch ns)) (sym g)
       go false g = refl
 
 module _ (ch : Choice) (ns : List ℕ) (r : Outcome) (rs ws result work : List ℕ) (called : Called ch ns r rs ws result work) (states : ℕ) (aside : Units)
-    (f : r ≡ Finished states aside) where
+    (f : r ≡ Ok (record { states = states; aside = aside })) where
   abbrev i : Input
   i = input_from ch ns
 
-  answers : Finished states aside ≡ numbers_outcome ch ns
+  answers : Ok (record { states = states; aside = aside }) ≡ numbers_outcome ch ns
   answers = sym f ∙ called.answer
 
   ok : complete ns ≡ true
   ok = worked_complete ch ns states aside answers
 
-  is_accepted : verdict i ≡ Accepted
+  is_accepted : verdict i ≡ Ok tt
   is_accepted = worked_accepted ch ns states aside answers
 
   table_is : take states (table_of result) ≡ (finished i).table

@@ -1,8 +1,7 @@
 -- What the inner functions do for each other, from the graph call to the text: no public contract rests on these.
-use Rattle.std.specs.Prelude.{◌≡◌, true, List, ◌++◌, ℕ, suc, ◌≤◌, length, take}
+use Rattle.std.specs.Prelude.{◌≡◌, true, List, ◌++◌, ℕ, suc, ◌≤◌, length, take, Ok}
 use Rattle.rules.specs.declared.State.{State}
 use Rattle.rules.specs.declared.Units.{Units}
-use Rattle.rules.specs.declared.Verdict.TheVariants.{Accepted}
 use Rattle.rules.specs.Questions.{is_table, largest, spread}
 use Rattle.rules.specs.Refusals.{verdict}
 use Rattle.rules.specs.Cycles.{cores}
@@ -25,7 +24,7 @@ pub record Counted (T : List State) (n : ℕ) (counts : List ℕ) : Type 0 where
 -- every miss count of the table, and this is what is printed
 pub record Finishes (ch : Choice) (ns result : List ℕ) (states : ℕ) (aside : Units) : Type 0 where
   pub whole : complete ns ≡ true
-  pub accepted : verdict (input_from ch ns) ≡ Accepted
+  pub accepted : verdict (input_from ch ns) ≡ Ok tt
   pub table : is_table (take states (table_of result)) ≡ true
   pub covered : largest (take states (table_of result)) ≤ longest (input_from ch ns)
   pub few : longest (input_from ch ns) ≤ 4096

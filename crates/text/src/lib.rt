@@ -6,9 +6,7 @@ ghost use Rattle.printed.specs.Rooms.{after_numbers, after_text, after_cycles_of
 ghost use Rattle.printed.specs.Wanted.{wanted_after, wanted_after_text};
 
 use crate::working::{put_form, put_text};
-use basics::clear_numbers;
 use printed::{Form, Wanted, has_room};
-use writing::Written;
 
 mod working;
 
@@ -20,7 +18,7 @@ pub fn curve_of_numbers(
     work: &mut [u64],
     counts: &mut [u64],
     output: &mut [u8],
-) -> Written
+) -> Option<usize>
     ensures { record { answer = result; rooms = record { result = res.new; work = work.new; counts = counts.new; output = output.new } } ≡ after_numbers numbers.now (record { result = res.old; work = work.old; counts = counts.old; output = output.old }) }
 {
     write_numbers(Wanted::Misses, numbers, res, work, counts, output)
@@ -33,7 +31,7 @@ pub fn cycles_of_numbers(
     work: &mut [u64],
     counts: &mut [u64],
     output: &mut [u8],
-) -> Written
+) -> Option<usize>
     ensures { record { answer = result; rooms = record { result = res.new; work = work.new; counts = counts.new; output = output.new } } ≡ after_cycles_of_numbers numbers.now (record { result = res.old; work = work.old; counts = counts.old; output = output.old }) }
 {
     write_numbers(Wanted::Cycles, numbers, res, work, counts, output)
@@ -47,7 +45,7 @@ pub fn curve_of_text(
     work: &mut [u64],
     counts: &mut [u64],
     output: &mut [u8],
-) -> Written
+) -> Option<usize>
     ensures { record { answer = result; numbers = numbers.new; rooms = record { result = res.new; work = work.new; counts = counts.new; output = output.new } } ≡ after_text text.now numbers.old (record { result = res.old; work = work.old; counts = counts.old; output = output.old }) }
 {
     write_text(
@@ -70,7 +68,7 @@ pub fn cycles_of_text(
     work: &mut [u64],
     counts: &mut [u64],
     output: &mut [u8],
-) -> Written
+) -> Option<usize>
     ensures { record { answer = result; numbers = numbers.new; rooms = record { result = res.new; work = work.new; counts = counts.new; output = output.new } } ≡ after_cycles_of_text text.now numbers.old (record { result = res.old; work = work.old; counts = counts.old; output = output.old }) }
 {
     write_text(
@@ -94,7 +92,7 @@ pub fn curve_of_chosen_text(
     work: &mut [u64],
     counts: &mut [u64],
     output: &mut [u8],
-) -> Written
+) -> Option<usize>
     ensures { record { answer = result; numbers = numbers.new; rooms = record { result = res.new; work = work.new; counts = counts.new; output = output.new } } ≡ after_chosen_text text.now numbers.old (record { result = res.old; work = work.old; counts = counts.old; output = output.old }) }
 {
     write_text(
@@ -117,7 +115,7 @@ pub fn cycles_of_chosen_text(
     work: &mut [u64],
     counts: &mut [u64],
     output: &mut [u8],
-) -> Written
+) -> Option<usize>
     ensures { record { answer = result; numbers = numbers.new; rooms = record { result = res.new; work = work.new; counts = counts.new; output = output.new } } ≡ after_cycles_of_chosen_text text.now numbers.old (record { result = res.old; work = work.old; counts = counts.old; output = output.old }) }
 {
     write_text(
@@ -140,13 +138,13 @@ fn write_numbers(
     work: &mut [u64],
     counts: &mut [u64],
     output: &mut [u8],
-) -> Written
+) -> Option<usize>
     ensures { record { answer = result; rooms = record { result = res.new; work = work.new; counts = counts.new; output = output.new } } ≡ wanted_after wanted numbers.now (record { result = res.old; work = work.old; counts = counts.old; output = output.old }) }
 {
     if !has_room(wanted, res.len(), work.len(), counts.len(), output.len()) {
-        return Written::NoRoom;
+        return None;
     }
-    Written::Bytes(put_form(Form::Plain, wanted, numbers, res, work, counts, output))
+    Some(put_form(Form::Plain, wanted, numbers, res, work, counts, output))
 }
 
 // The text that is wanted, for a text.
@@ -159,16 +157,16 @@ fn write_text(
     work: &mut [u64],
     counts: &mut [u64],
     output: &mut [u8],
-) -> Written
+) -> Option<usize>
     ensures { record { answer = result; numbers = numbers.new; rooms = record { result = res.new; work = work.new; counts = counts.new; output = output.new } } ≡ wanted_after_text form wanted text.now numbers.old (record { result = res.old; work = work.old; counts = counts.old; output = output.old }) }
 {
     if numbers.len() < 16384 {
-        return Written::NoRoom;
+        return None;
     }
     if !has_room(wanted, res.len(), work.len(), counts.len(), output.len()) {
-        return Written::NoRoom;
+        return None;
     }
     let end = put_text(form, wanted, text, numbers, res, work, counts, output);
-    clear_numbers(numbers);
-    Written::Bytes(end)
+    numbers.fill(0);
+    Some(end)
 }

@@ -1,6 +1,5 @@
 // From the numbers to the text: the graph call, the questions, and the lines that they give.
-ghost use Rattle.std.specs.Prelude.{◌≡◌, true, ◌++◌, ◌≤◌, length, take, replicate};
-ghost use Rattle.rules.specs.declared.Verdict.TheVariants.{Accepted};
+ghost use Rattle.std.specs.Prelude.{◌≡◌, true, ◌++◌, ◌≤◌, length, take, replicate, Ok};
 ghost use Rattle.rules.specs.Questions.{is_table, largest};
 ghost use Rattle.rules.specs.Refusals.{verdict};
 ghost use Rattle.rules.specs.Cycles.{cores};
@@ -17,24 +16,23 @@ ghost use Rattle.printed.specs.Rooms.{Wrote};
 ghost use Rattle.text.specs.Working.{Counted, Finishes};
 ghost use Rattle.printed.specs.Wanted.{wanted_text};
 
-use curve_numbers::{Choice, Chosen, choice_in};
+use curve_numbers::{Choice, choice_in};
 use lines::{put_cores, put_counts, put_head, put_longest};
 use parts::{analyse_numbers, longest_of_numbers};
 use printed::{Form, Wanted};
 use questions::spread_in;
-use reading::{Read, read_numbers};
-use rules::{Count, Length, Outcome, Start, Units};
-use words::clear;
+use reading::read_numbers;
+use rules::{Finished, Start, Units};
 use writing::put_refused;
 
 // The accesses of the longest path, where the graph call is accepted.
 fn longest_of(choice: Choice, numbers: &[u32]) -> u64
-    requires { (complete numbers.now ≡ true) × (verdict (input_from choice numbers.now) ≡ Accepted) }
+    requires { (complete numbers.now ≡ true) × (verdict (input_from choice numbers.now) ≡ Ok tt) }
     ensures { result ≡ longest (input_from choice numbers.now) }
 {
     match longest_of_numbers(choice, numbers) {
-        Length::Accesses(n) => n,
-        Length::Refused(why) => 0,
+        Ok(n) => n,
+        Err(why) => 0,
     }
 }
 
@@ -44,8 +42,8 @@ pub(crate) fn count_all(res: &[u64], states: usize, counts: &mut [u64]) -> usize
     ensures { Counted (take states (table_of res.now)) result counts.new }
 {
     match spread_in(res, states, counts) {
-        Count::Misses(last) => last as usize + 1,
-        Count::Refused(why) => 0,
+        Ok(last) => last as usize + 1,
+        Err(why) => 0,
     }
 }
 
@@ -120,8 +118,8 @@ pub(crate) fn put_finished(
     ensures { Put (of_numbers (wanted_text wanted) choice numbers.now) 0 result output.old output.new × (res.new ≡ replicate (length res.old) 0) × (counts.new ≡ replicate (length counts.old) 0) }
 {
     let end = put_wanted(wanted, choice, numbers, states, aside, res, counts, output);
-    clear(res);
-    clear(counts);
+    res.fill(0);
+    counts.fill(0);
     end
 }
 
@@ -139,8 +137,8 @@ pub(crate) fn put_numbers(
     ensures { Wrote (numbers_worked choice numbers.now) (of_numbers (wanted_text wanted) choice numbers.now) result (record { result = res.old; work = work.old; counts = counts.old; output = output.old }) (record { result = res.new; work = work.new; counts = counts.new; output = output.new }) }
 {
     match analyse_numbers(choice, numbers, res, work) {
-        Outcome::Refused(why) => put_refused(output, why.number()),
-        Outcome::Finished(states, aside) => put_finished(
+        Err(why) => put_refused(output, why.number()),
+        Ok(Finished { states, aside }) => put_finished(
             wanted, choice, numbers, states, aside, res, counts, output,
         ),
     }
@@ -159,10 +157,8 @@ pub(crate) fn put_chosen(
     ensures { Wrote (chosen_worked numbers.now) (of_chosen (wanted_text wanted) numbers.now) result (record { result = res.old; work = work.old; counts = counts.old; output = output.old }) (record { result = res.new; work = work.new; counts = counts.new; output = output.new }) }
 {
     match choice_in(numbers) {
-        Chosen::Nothing => put_refused(output, 9),
-        Chosen::Cache(choice) => {
-            put_numbers(wanted, choice, &numbers[3..], res, work, counts, output)
-        }
+        None => put_refused(output, 9),
+        Some(choice) => put_numbers(wanted, choice, &numbers[3..], res, work, counts, output),
     }
 }
 
@@ -207,7 +203,7 @@ pub(crate) fn put_text(
     ensures { Wrote (text_worked (form_worked form) text.now) (of_text (of_form form (wanted_text wanted)) text.now) result (record { result = res.old; work = work.old; counts = counts.old; output = output.old }) (record { result = res.new; work = work.new; counts = counts.new; output = output.new }) }
 {
     match read_numbers(text, numbers) {
-        Read::Nothing => put_refused(output, 9),
-        Read::Numbers(n) => put_form(form, wanted, &numbers[..n], res, work, counts, output),
+        None => put_refused(output, 9),
+        Some(n) => put_form(form, wanted, &numbers[..n], res, work, counts, output),
     }
 }

@@ -1,5 +1,6 @@
 -- What the code of an access leaves in a slot and its stage (Accessed) is what the row ends start from (Staged): the table after document 01's step, when the blocks that are dead
 -- have left and light contents were emptied as the plan says. Cells are compared as sums (Access, Sent); a row is known by its number, and every mask that has units by its row.
+use Rattle.std.specs.Prelude.{None}
 use mathlib.Core.Path.{◌≡◌, refl, sym, ap, ap₂, ◌∙◌}
 use mathlib.Core.Bool.{Bool, true, false, cond, ◌&&◌}
 use mathlib.Core.Logic.{◌≢◌}
@@ -11,7 +12,6 @@ use lib.Dec.{eqb, ltb}
 use lib.ListN.{length}
 use borrow.Author.Tests.{eqb-true, eqb-false, eq-eqb, lt-ltb, le-ltb, ltb-true}
 use Rattle.rules.specs.declared.Filled.{Filled}
-use Rattle.rules.specs.declared.Place.TheVariants.{Untracked as untracked}
 use Rattle.rules.specs.declared.State.{State}
 use Rattle.rules.specs.declared.Target.{Target}
 use Rattle.rules.specs.AnyTable.{access as access_of, total as total_of}
@@ -118,7 +118,7 @@ module _ (N Z : ℕ) (ts : List ℕ) (K W M : ℕ) (some : 0 < N) (few : N ≤ 1
 
   alone_fit : (a : ℕ) → Fit N Z ts (suc M) (record { kept = alone a; lost = g.lost })
   alone_fit a =
-      (sure_narrowed N Z ts (suc M) (λ C m F. 0) 0 (good_none N Z ts (suc M) K untracked g.lost) L (stepped N x (rows_of a g).kept) g.lost
+      (sure_narrowed N Z ts (suc M) (λ C m F. 0) 0 (good_none N Z ts (suc M) K None g.lost) L (stepped N x (rows_of a g).kept) g.lost
       (after_fit N Z ts some few M x aim (rows_of a g) (fit_from a))).fit
 
   tabled : (a : ℕ) → Tabled (length ts) (alone a).table
@@ -154,7 +154,7 @@ module _ (N Z : ℕ) (ts : List ℕ) (K W M : ℕ) (some : 0 < N) (few : N ≤ 1
 
     reduced_fit : (a : ℕ) → Fit N Z ts (suc M) (reduced_rows a)
     reduced_fit a =
-        (sure_reduced N Z ts (suc M) (λ C m F. 0) 0 (good_none N Z ts (suc M) K untracked g.lost) L K (length ts) (alive L x.place) (alone a) g.lost (alone_fit a)).fit
+        (sure_reduced N Z ts (suc M) (λ C m F. 0) 0 (good_none N Z ts (suc M) K None g.lost) L K (length ts) (alive L x.place) (alone a) g.lost (alone_fit a)).fit
 
     pub reduces : (a : ℕ) → Reduces (length ts) (alive L x.place) (alone a) (reduced_rows a).kept ws plan
     reduces a =

@@ -1,15 +1,13 @@
 -- An access from slot to slot is `advance` (tight_rules), and accesses one after the other are a run. What is set aside adds up: what is left over, what the plan sets aside and what the
 -- row ends set aside. No more units are lost at an access than may leave, so that a table always has more than that.
+use Rattle.std.specs.Prelude.{None, Some}
 use mathlib.Core.Path.{◌≡◌, ap, subst, ◌∙◌}
 use mathlib.Core.List.{List, [], ◌∷◌}
 use Prim.Native.Nat.{ℕ, suc, ◌+◌, ◌^◌, ◌≤◌, ◌<◌}
 use native.Mathlib.Omega.{arith}
 use lib.ListN.{length}
-use Rattle.rules.specs.declared.Last.{Last}
-use Rattle.rules.specs.declared.Last.TheVariants.{Block as block}
-use Rattle.rules.specs.declared.Place.TheVariants.{Untracked as untracked}
 use Rattle.rules.specs.declared.Target.{Target}
-use Rattle.rules.specs.Contents.{target_of}
+use Rattle.rules.specs.Contents.{target_of, Last}
 use Rattle.rules.specs.Table.{Work}
 use Rattle.rules.specs.Units.{whole, more}
 use Rattle.rules.specs.Shape.{Aimed}
@@ -70,7 +68,7 @@ module _ (N Z : ℕ) (ts : List ℕ) (K W M : ℕ) (some : 0 < N) (few : N ≤ 1
   after_fit : Fit N Z ts (suc M) (rows_of (more 0 aside_of) (grid_of K W at (words_of ys)))
   after_fit =
       subst (Fit N Z ts (suc M)) (means 0)
-      (settles N Z ts some few M x aim (rows_of 0 g) (fit_from N Z ts K W M some few x aim g holds L 0) (λ C m F. 0) 0 (good_none N Z ts (suc M) K untracked g.lost) L K W (length ts)).fit
+      (settles N Z ts some few M x aim (rows_of 0 g) (fit_from N Z ts K W M some few x aim g holds L 0) (λ C m F. 0) 0 (good_none N Z ts (suc M) K None g.lost) L K W (length ts)).fit
 
   pub advanced : Advanced N Z ts K W M x L g (grid_of K W at (words_of ys)) aside_of
   advanced =
@@ -98,12 +96,12 @@ module _ (N Z : ℕ) (ts : List ℕ) (K W M L : ℕ) (p : Last) (bs : List ℕ) 
   module _ (n : ℕ) (q : Last) (b : Grid) (u : ℕ) where
     -- one more
     pub ran_next : (c : ℕ) (cs : List ℕ) → Ran N Z ts K W M L p bs g n q (c ∷ cs) b u → (h : Grid) (v : ℕ) → Advanced N Z ts K W (n + M) (target_of Z ts q c) (living ts L cs) b h v
-        → Ran N Z ts K W M L p bs g (n + 1) (block c) cs h (u + v)
+        → Ran N Z ts K W M L p bs g (n + 1) (Some c) cs h (u + v)
     unfolding run
     ran_next c cs so h v one =
         record {
           holds = subst (λ (m : ℕ). Holding N Z ts K W m h) (let z : suc (n + M) ≡ n + 1 + M = omega arith in z) one.holds;
-          means = λ a l. so.means a l ∙ ap (run N Z K W ts L (block c) cs) (one.means (more a u)) ∙ ap (λ (m : ℕ). run N Z K W ts L (block c) cs (rows_of m h)) (more_more a u v);
+          means = λ a l. so.means a l ∙ ap (run N Z K W ts L (Some c) cs) (one.means (more a u)) ∙ ap (λ (m : ℕ). run N Z K W ts L (Some c) cs (rows_of m h)) (more_more a u v);
         }
 
     -- all of them

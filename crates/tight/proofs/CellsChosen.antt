@@ -1,57 +1,20 @@
 -- Cells that are chosen: word by word by what is filled, then those that are not chosen, then all. The words of the filled numbers are none of those written.
-use mathlib.Core.Path.{◌≡◌, refl, sym, ap, ap₂, ◌∙◌}
+use mathlib.Core.Path.{◌≡◌, refl, ap, ◌∙◌}
 use mathlib.Core.Logic.{◌⊎◌, inl}
 use mathlib.Core.Bool.{Bool, true, false, not}
 use mathlib.Core.List.{List}
-use Prim.Native.Nat.{ℕ, ◌+◌, ◌-◌, ◌%◌, ◌^◌, ◌≤◌, ◌<◌}
+use Prim.Native.Nat.{ℕ, ◌+◌, ◌-◌, ◌^◌, ◌≤◌, ◌<◌}
 use native.Mathlib.Omega.{arith}
 use lib.Bits.{bit_and, and_mask, and_zero_r}
-use lib.ListN.{length, set}
-use borrow.Author.Tests.{lt-ltb, le-ltb}
+use lib.ListN.{length}
 use Rattle.basics.proofs.Sums.{sum_to, sum_eq}
-use Rattle.rules.specs.declared.Filled.{Filled}
 use Rattle.rules.specs.declared.Target.{Target}
-use Rattle.rules.specs.Filling.{filled_at}
 use Rattle.tight_rows.specs.Room.{Words, words_of}
 use Rattle.tight_rows.specs.Rows.{row_sum, if}
-use Rattle.tight.specs.Access.{evicts}
 use Rattle.tight.specs.Selecting.{ones, chosen, loses_at, Selectable, Selects}
-use Rattle.tight_rows.proofs.Writing.{Written, as_before, one_more_lem, written_at}
-
--- ---- one cell
-
-module _ (N : ℕ) (x : Target) (F G : Filled) (n : ℕ) (l : x.set < 16) (g : F ≡ G) (e : n ≡ filled_at F (x.set % 16)) where
-  number_is : filled_at G x.set ≡ n
-  number_is =
-      let m : x.set ≡ x.set % 16 = omega arith in
-      ap (λ (H : Filled). filled_at H x.set) (sym g) ∙ ap (filled_at F) m ∙ sym e
-
-  pub loses_none : n < N → 0 ≡ chosen (evicts N x G)
-  loses_none h = rw (number_is, lt-ltb n N h) refl
-
-  pub loses_one : N ≤ n → ones ≡ chosen (evicts N x G)
-  loses_one h = rw (number_is, le-ltb n N h) refl
-
--- ---- the cells of which a miss evicts a block
-
-module _ (N : ℕ) (x : Target) (fronts backs to n : ℕ) (xs ys : List ℕ) (f : fronts + n ≤ to) (b : backs + n ≤ to) (r : to + n ≤ length xs) (j : ℕ) (l : j < n)
-    (h : Written to (λ w i. chosen (loses_at N x fronts backs w i)) j xs ys) where
-  read : (p : ℕ) → p < to → words_of ys p ≡ words_of xs p
-  read p m = as_before to (λ w i. chosen (loses_at N x fronts backs w i)) j xs ys h p (omega arith) (inl m)
-
-  same_loses : loses_at N x fronts backs (words_of ys) j ≡ loses_at N x fronts backs (words_of xs) j
-  same_loses = ap (evicts N x) (ap₂ (λ (u v : ℕ). record { front = u; back = v }) (read (fronts + j) (omega arith)) (read (backs + j) (omega arith)))
-
-  pub losing_more : (v : ℕ) → v ≡ chosen (loses_at N x fronts backs (words_of ys) j) → Written to (λ w i. chosen (loses_at N x fronts backs w i)) (j + 1) xs (set ys (to + j) v)
-  losing_more v e = one_more_lem to (λ w i. chosen (loses_at N x fronts backs w i)) j xs ys v h (omega arith) (e ∙ ap chosen same_loses)
+use Rattle.tight_rows.proofs.Writing.{Written, as_before, written_at}
 
 -- ---- the others
-
-pub others_more : (from to n : ℕ) (xs ys : List ℕ) → from + n ≤ to → to + n ≤ length xs → (j : ℕ) → j < n → Written to (λ w i. ones - w (from + i)) j xs ys
-    → Written to (λ w i. ones - w (from + i)) (j + 1) xs (set ys (to + j) (ones - words_of ys (from + j)))
-others_more from to n xs ys f r j l h =
-    one_more_lem to (λ w i. ones - w (from + i)) j xs ys (ones - words_of ys (from + j)) h (omega arith)
-    (ap (λ (u : ℕ). ones - u) (as_before to (λ w i. ones - w (from + i)) j xs ys h (from + j) (omega arith) (inl (omega arith))))
 
 chosen_not : (b : Bool) → ones - chosen b ≡ chosen (not b)
 chosen_not true = refl

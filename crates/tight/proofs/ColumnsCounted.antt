@@ -10,7 +10,7 @@ use native.Mathlib.Numerals.{add-one}
 use native.Mathlib.Omega.{arith}
 use native.Mathlib.Decide.{ℕ_discrete}
 use lib.Bits.{and_le_l}
-use lib.ListN.{length, set}
+use lib.ListN.{length}
 use Rattle.basics.proofs.Sums.{sum_to, sum_eq, sum_le, part_most}
 use Rattle.rules.specs.declared.Filled.{Filled}
 use Rattle.rules.specs.declared.Target.{Target}
@@ -26,7 +26,7 @@ use Rattle.tight_rows.specs.Rows.{replaced, selected, with_row, Addable, if}
 use Rattle.tight.specs.Sending.{start_at, mask_in}
 use Rattle.tight_rows.specs.Grid.{filled_words}
 use Rattle.tight_ends.specs.Stage.{stage_at}
-use Rattle.tight.specs.Grouping.{missed_at, hit_of, miss_of, column_of, Counting, ColumnFits, Aside, RowCounted, CountedTo, UnitsStaged, group_put, Grouping, Grouped, HeaderSent}
+use Rattle.tight.specs.Grouping.{missed_at, hit_of, miss_of, column_of, Counting, ColumnFits, Aside, RowCounted, CountedTo, UnitsStaged, group_put, Grouping, Grouped}
 use Rattle.tight_rows.proofs.Writing.{as_before, written_at, four_long, four_beside, four_first, four_second, four_third, four_fourth, row_before}
 use Rattle.tight_rows.proofs.Adding.{sum_part}
 use Rattle.tight.proofs.CellsChosen.{chosen_part}
@@ -58,9 +58,6 @@ module _ (W e : ℕ) (x : Target) (s : Sender) (k : ℕ) (l : k < s.count) (xs :
 
     pub hit_addable : Addable from s.all e s.width 1 xs
     hit_addable = addable e (le_refl e) (omega (arith, ok.narrow, ok.behind)) (λ j h. (fits j h).0)
-
-    pub missed_addable : Addable from s.all (missed_at W e) s.width 1 xs
-    missed_addable = addable (missed_at W e) (omega arith) (omega (arith, ok.narrow, ok.behind)) (λ j h. (fits j h).1)
 
     -- every cell is chosen
     whole_word : (j : ℕ) → j < s.width → selected (words_of xs) (from + j) (s.all + j) ≡ words_of xs (from + j)
@@ -99,12 +96,6 @@ behind_units : (W e n i : ℕ) → n ≤ W → e + 2 * suc W ≤ i → Aside W e
 behind_units W e n i l h = record { hit = inr (omega arith); missed = inr (omega arith) }
 
 module _ (W e : ℕ) (x : Target) (s : Sender) (xs : List ℕ) where
-  pub counted_start : CountedTo W e x s 0 xs xs
-  counted_start = record { long = refl; hit = λ j l. omega arith; missed = λ j l. omega arith; beside = λ i l b. refl }
-
-  pub all_counted : (m : ℕ) (ys : List ℕ) → m ≡ s.count → CountedTo W e x s m xs ys → CountedTo W e x s s.count xs ys
-  all_counted m ys q so = subst (λ (n : ℕ). CountedTo W e x s n xs ys) q so
-
   module _ (ok : Counting W e s xs) (fits : (j : ℕ) → j < s.width → ColumnFits W e j (column_of s (words_of xs) j) xs) (m : ℕ) (ys : List ℕ) (l : m < s.count) (so : CountedTo W e x s m xs ys) where
     same_mask : mask_in s (words_of ys) m ≡ mask_in s (words_of xs) m
     same_mask = so.beside (s.masks + m) (omega (arith, ok.masks, ok.behind, ok.all_end)) (before_stage W e s.width (s.masks + m) (omega (arith, ok.masks)))
@@ -310,23 +301,3 @@ module _ (N W e : ℕ) (x : Target) (fronts backs n : ℕ) (xs : List ℕ) (ok :
         out : {i : ℕ} → (i < stage_at W e 2 0) ⊎ (e + 6 * suc W ≤ i) → stage_at W e 2 0 ≤ i → i < e + 6 * suc W → ⊥
         out (inl h) q r = absurd (omega arith)
         out (inr h) q r = absurd (omega arith)
-
--- ---- the header
-
-pub header_sent : (a b rows : ℕ) (xs : List ℕ) → b + 4 ≤ length xs
-    → HeaderSent a b rows xs (set (set (set (set xs b rows) (b + 1) (words_of xs (a + 1))) (b + 2) (words_of xs (a + 2) + 1)) (b + 3) (words_of xs (a + 3)))
-header_sent a b rows xs l =
-    record {
-      long = four_long b (b + 1) (b + 2) (b + 3) rows (words_of xs (a + 1)) (words_of xs (a + 2) + 1) (words_of xs (a + 3)) xs;
-      count = four_first b (b + 1) (b + 2) (b + 3) rows (words_of xs (a + 1)) (words_of xs (a + 2) + 1) (words_of xs (a + 3)) xs (omega arith) (omega arith) (omega arith) (omega arith);
-      base = four_second b (b + 1) (b + 2) (b + 3) rows (words_of xs (a + 1)) (words_of xs (a + 2) + 1) (words_of xs (a + 3)) xs (omega arith) (omega arith) (omega arith) (omega arith);
-      width = four_third b (b + 1) (b + 2) (b + 3) rows (words_of xs (a + 1)) (words_of xs (a + 2) + 1) (words_of xs (a + 3)) xs (omega arith) (omega arith) (omega arith) (omega arith)
-          ∙ add-one (words_of xs (a + 2));
-      lost = four_fourth b (b + 1) (b + 2) (b + 3) rows (words_of xs (a + 1)) (words_of xs (a + 2) + 1) (words_of xs (a + 3)) xs (omega arith) (omega arith) (omega arith) (omega arith);
-      rest = λ p h o. four_beside b (b + 1) (b + 2) (b + 3) rows (words_of xs (a + 1)) (words_of xs (a + 2) + 1) (words_of xs (a + 3)) xs p (λ q. out o (omega arith) (omega arith))
-          (λ q. out o (omega arith) (omega arith)) (λ q. out o (omega arith) (omega arith)) (λ q. out o (omega arith) (omega arith));
-    }
-  where
-    out : {p : ℕ} → (p < b) ⊎ (b + 4 ≤ p) → b ≤ p → p < b + 4 → ⊥
-    out (inl h) q r = absurd (omega arith)
-    out (inr h) q r = absurd (omega arith)

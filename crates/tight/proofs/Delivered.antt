@@ -19,7 +19,7 @@ use Rattle.tight_rows.specs.Room.{words_of, Leaves, width_at, slot_words}
 use Rattle.tight.specs.Moving.{plus}
 use Rattle.tight_rows.specs.Numbers.{Openable, Opened}
 use Rattle.tight.specs.Sending.{start_at, comes_from, rest_comes, Clear, Receiving, Movings}
-use Rattle.tight.specs.Grouping.{Grouping, Grouped, HeaderSent}
+use Rattle.tight.specs.Grouping.{Grouped, HeaderSent}
 use Rattle.tight.specs.Passing.{receiver_of, Delivering, Delivered}
 use Rattle.tight_rows.proofs.MasksNumbered.{number_there}
 use Rattle.tight_rows.proofs.Writing.{row_before}
@@ -166,14 +166,5 @@ module _ (N : ℕ) (x : Target) (L : ℕ) (s : Sender) (o : Opening) (a e : ℕ)
         )
 
         module _ (hs : List ℕ) (heads : HeaderSent a o.slot r zs hs) where
-          pub may_group : Grouping o.cells e (a + 4 + 2 * o.contents) (a + 4 + 2 * o.contents + o.cells) s.width hs
-          may_group =
-              record {
-                narrow = omega (arith, ok.wide);
-                front = omega (arith, ok.from, plan_before, ok.wide);
-                back = omega (arith, ok.from, plan_before, ok.wide);
-                inside = omega (arith, heads.long, moves.long, same_long, ok.inside);
-              }
-
           pub delivered : (vs : List ℕ) → Grouped N o.cells e x (a + 4 + 2 * o.contents) (a + 4 + 2 * o.contents + o.cells) s.width hs vs → Delivered N x L s o a e r xs vs
           delivered vs groups = record { opened = ys; moved = zs; headed = hs; opens = opens; moves = moves; heads = heads; groups = groups }

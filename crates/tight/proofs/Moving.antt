@@ -1,7 +1,7 @@
 -- Rows on their way to a table: the row that they come to is one of the table's, so that nothing else is written, and what is written are sums.
 use mathlib.Core.Path.{◌≡◌, refl, sym, ap, ◌∙◌}
 use mathlib.Core.Logic.{◌⊎◌, inl, inr, ◌≢◌}
-use mathlib.Core.Bool.{true, false, cond, Bool, ◌&&◌}
+use mathlib.Core.Bool.{true, false, Bool, ◌&&◌}
 use mathlib.Core.List.{List}
 use Prim.Native.Nat.{ℕ, ◌+◌, ◌-◌, ◌*◌, ◌≤◌, ◌<◌}
 use native.Mathlib.Nat.{le_trans, le_refl, le_of_eq, mul-le-mul_right}
@@ -17,7 +17,7 @@ use Rattle.rules.specs.declared.Target.{Target}
 use Rattle.rules.specs.Contents.{hits, bit, with, without, shared, held, size}
 use Rattle.tight.specs.declared.Route.{Route}
 use Rattle.tight_rows.specs.Room.{Words, words_of, Leaves}
-use Rattle.tight_rows.specs.Rows.{Apart, replaced, selected, with_row, Addable, within, if}
+use Rattle.tight_rows.specs.Rows.{Apart, selected, Addable, within, if}
 use Rattle.tight.specs.Access.{risk}
 use Rattle.tight.specs.Moving.{plus, start_of, comes, Beside, row_units, Movable, choosing, end_of, miss_comes, row_comes}
 use Rattle.tight_rows.proofs.Writing.{not_within, within_cases, is_within_lem}
@@ -57,21 +57,6 @@ module _ (r : Route) (L s : ℕ) (xs : List ℕ) (ok : Movable r L s xs) (D : �
           mul-le-mul_right s (part_few r (words_of xs) j l),
         );
       }
-
--- a row with the other added is one to which it came
-pub row_came : (r : Route) (shift times D : ℕ) (xs ys : List ℕ)
-    → Leaves (λ w. replaced (start_of r (words_of xs) D + shift) r.width (with_row r.from r.select (start_of r (words_of xs) D + shift) times w) w) xs ys
-    → Leaves (plus (comes r shift times D)) xs ys
-row_came r shift times D xs ys h = record { long = h.long; word = λ i l. h.word i l ∙ same i }
-  where
-    a : ℕ
-    a = start_of r (words_of xs) D + shift
-
-    same : (i : ℕ) → replaced a r.width (with_row r.from r.select a times (words_of xs)) (words_of xs) i ≡ plus (comes r shift times D) (words_of xs) i
-    same i =
-        within_cases a r.width i
-        (λ b. cond b (with_row r.from r.select a times (words_of xs) (i - a)) (words_of xs i) ≡ words_of xs i + if b (selected (words_of xs) (r.from + (i - a)) (r.select + (i - a)) * times))
-        (λ p q. let e : a + (i - a) ≡ i = omega arith in ap (λ (k : ℕ). words_of xs k + selected (words_of xs) (r.from + (i - a)) (r.select + (i - a)) * times) e) (λ o. omega arith)
 
 -- ---- one after the other
 
@@ -183,12 +168,6 @@ module _ (r : Route) (C E : ℕ) (x : Target) (L : ℕ) where
   abbrev pub CameTo : ℕ → List ℕ → List ℕ → Type 0
   CameTo k xs ys = Leaves (plus (λ w i. lost_below (one_comes w i) E k)) xs ys
 
-  pub one_came : (e D : ℕ) (xs ys : List ℕ) → bit E e ≡ true → D ≡ end_at e → Leaves (plus (comes r 1 1 D)) xs ys → Leaves (plus (λ w i. if (bit E e) (one_comes w i e))) xs ys
-  one_came e D xs ys b d f = plus_same (comes r 1 1 D) (λ w i. if (bit E e) (one_comes w i e)) xs ys (λ i. rw (b, d) refl) f
-
-  pub none_came : (e : ℕ) (xs : List ℕ) → bit E e ≡ false → Leaves (plus (λ w i. if (bit E e) (one_comes w i e))) xs xs
-  none_came e xs b = plus_none (λ w i. if (bit E e) (one_comes w i e)) xs (λ i. rw b refl)
-
   pub came_from_none : (xs : List ℕ) → CameTo 0 xs xs
   came_from_none xs = plus_none (λ w i. lost_below (one_comes w i) E 0) xs (λ i. lost_nothing_yet (one_comes (words_of xs) i) E)
 
@@ -246,9 +225,6 @@ module _ (N : ℕ) (x : Target) (L : ℕ) (r : Route) (keep C : ℕ) (xs : List 
   lost_few i =
       rw (lost_is (words_of xs) i)
       (lost_most (one_comes r C E x L (words_of xs) i) (row_units r (words_of xs)) (λ e. le_trans (comes_most r 1 1 (end_of x L (without C e)) (words_of xs) i) (omega arith)) E 16)
-
-  pub lost_first : Movable r L 16 xs
-  lost_first = movable_less r L 16 33 xs (omega arith) ok
 
   module _ (ys : List ℕ) (f : Leaves (plus lost_comes) xs ys) where
     pub kept_second : Movable r L rest ys

@@ -1,6 +1,6 @@
 -- The rows of all contents moved to the table after an access, one after the other, and then what is left over: only words of that table are written, so that each row comes as it would
 -- have come first. And no word grows beyond what all rows can add.
-use mathlib.Core.Path.{◌≡◌, refl, sym, ap, ap₂, subst, ◌∙◌}
+use mathlib.Core.Path.{◌≡◌, refl, sym, ap, ap₂, ◌∙◌}
 use mathlib.Core.Logic.{◌⊎◌, inl, inr}
 use mathlib.Core.Bool.{Bool, true, false, cond}
 use mathlib.Core.List.{List, [], ◌∷◌}
@@ -27,7 +27,7 @@ use Rattle.tight_rows.proofs.Grids.{sum_none}
 use Rattle.tight_rows.proofs.Adding.{sum_part, sum_term}
 use Rattle.tight_rows.proofs.Raising.{live_most, lost_everywhere, lost_most}
 use Rattle.tight_rows.proofs.Writing.{row_before}
-use Rattle.tight.proofs.Moving.{comes_quiet, comes_most, same_comes, plus_then, plus_none, plus_same}
+use Rattle.tight.proofs.Moving.{comes_quiet, comes_most, same_comes, plus_then}
 
 -- ---- one row, whatever its contents
 
@@ -177,16 +177,6 @@ module _ (N : ℕ) (x : Target) (L : ℕ) (t : Receiver) (s : Sender) (k : ℕ) 
         all_movable t L s xs ok.there k ok.row 1 (λ i a b. omega (arith, ok.fits i a b)),
       )
 
-  pub row_moved_on : (ys : List ℕ) (r : Route) → r ≡ route_at t s s.lose k → Leaves (plus (row_comes N x L r s.keep s.all (mask_in s (words_of xs) k))) xs ys
-      → Leaves (plus (λ w i. comes_from N x L t s w i k)) xs ys
-  row_moved_on ys r e h =
-      plus_same (row_comes N x L r s.keep s.all (mask_in s (words_of xs) k)) (λ w i. comes_from N x L t s w i k) xs ys
-      (λ i. ap (λ (q : Route). row_comes N x L q s.keep s.all (mask_in s (words_of xs) k) (words_of xs) i) (sym e)) h
-
-pub rest_moved_on : (x : Target) (L : ℕ) (t : Receiver) (s : Sender) (xs ys : List ℕ) (r : Route) (D : ℕ) → r ≡ rest_route t s → D ≡ end_of x L 0 → Leaves (plus (comes r 1 1 D)) xs ys
-    → Leaves (plus (rest_comes x L t s)) xs ys
-rest_moved_on x L t s xs ys r D e d h = plus_same (comes r 1 1 D) (rest_comes x L t s) xs ys (λ i. rw (e, d) refl) h
-
 -- ---- row after row
 
 module _ (N : ℕ) (x : Target) (L : ℕ) (t : Receiver) (s : Sender) (xs : List ℕ) where
@@ -197,12 +187,6 @@ module _ (N : ℕ) (x : Target) (L : ℕ) (t : Receiver) (s : Sender) (xs : List
   -- they have come
   abbrev pub MovedTo : ℕ → List ℕ → Type 0
   MovedTo m ys = Leaves (plus (bring m)) xs ys
-
-  pub moved_start : MovedTo 0 xs
-  moved_start = plus_none (bring 0) xs (λ i. refl)
-
-  pub all_moved : (m : ℕ) (ys : List ℕ) → m ≡ s.count → MovedTo m ys → MovedTo s.count ys
-  all_moved m ys e so = subst (λ (n : ℕ). MovedTo n ys) e so
 
   module _ (ok : Receiving t L s xs) (may : Movings N x t s xs) where
     fits_first : (k : ℕ) → k < s.count → Fits t s 33 k xs

@@ -22,9 +22,6 @@ use Rattle.tight.specs.Splitting.{can_lose, split_if, Shareable, share_at, is_sp
 use Rattle.tight_rows.proofs.Writing.{is_within_lem, not_within, row_before}
 
 module _ (x : Target) (C : ℕ) where
-  pub hit_keeps : hits x C ≡ true → false ≡ can_lose x C
-  hit_keeps h = rw h refl
-
   pub safe_keeps : hits x C ≡ false → risk x C ≡ 0 → false ≡ can_lose x C
   safe_keeps h z = rw (h, eq-eqb (risk x C) 0 z) refl
 
@@ -69,13 +66,6 @@ left_most N true false v l = omega (arith, mod-lt v l)
 left_most N false c v l = zero-le
 
 module _ (N : ℕ) (x : Target) (s : Shares) (xs : List ℕ) (ok : Shareable N s xs) where
-  pub shared_start : Shared N x s 0 xs xs
-  shared_start =
-      record { long = refl; cells = λ k j l. absurd (omega arith); left = λ j l. omega arith; beyond = λ k j l. absurd (omega arith); beside = λ i l a b. refl }
-
-  pub all_shared : (m : ℕ) (ys : List ℕ) → m ≡ s.count → Shared N x s m xs ys → Shared N x s s.count xs ys
-  all_shared m ys e so = subst (λ (n : ℕ). Shared N x s n xs ys) e so
-
   module _ (m : ℕ) (ys : List ℕ) (l : m < s.count) (so : Shared N x s m xs ys) where
     -- row m ends where the rows do, or before
     pub row_within : s.rows + m * s.length + s.length ≤ s.select

@@ -1,10 +1,10 @@
 -- The rows of all contents added to the sums by mask, one after the other: what is read for a row is none of the sums, and so it is as it was before the first. And no sum grows beyond
 -- what all rows can add.
-use mathlib.Core.Path.{◌≡◌, refl, sym, ap₂, subst, ◌∙◌}
+use mathlib.Core.Path.{◌≡◌, refl, sym, ap₂, ◌∙◌}
 use mathlib.Core.Logic.{◌⊎◌, inl, inr, ⊎_elim}
 use mathlib.Core.Bool.{Bool, true, false, cond, not, true≢false}
 use mathlib.Core.List.{List}
-use Prim.Native.Nat.{ℕ, suc, ◌+◌, ◌-◌, ◌*◌, ◌^◌, ◌≤◌, ◌<◌, zero-le}
+use Prim.Native.Nat.{ℕ, suc, ◌+◌, ◌-◌, ◌*◌, ◌^◌, ◌≤◌, ◌<◌}
 use native.Mathlib.Nat.{mul-le-mul_right, sub-le, suc-le-suc_iff}
 use native.Mathlib.Numerals.{add-one}
 use native.Mathlib.Omega.{arith}
@@ -22,7 +22,7 @@ use Rattle.tight.specs.Access.{risk, lost_to, miss_to, row_goes, Summable}
 use Rattle.tight.specs.Splitting.{can_lose}
 use Rattle.tight.specs.Sending.{start_at, mask_in, units_in, part_in, stay_in, goes_from, most_from, rest_in, Sending, Addable, Totalling, Totalled}
 use Rattle.tight_rows.proofs.Adding.{sum_part}
-use Rattle.tight_rows.proofs.Raising.{raised_at, raised_beside, raised_none, raised_then, raised_same, raised_one, live_most, live_part, lost_everywhere, lost_most}
+use Rattle.tight_rows.proofs.Raising.{raised_at, raised_beside, raised_then, raised_same, raised_one, live_most, live_part, lost_everywhere, lost_most}
 use Rattle.tight.proofs.Access.{sum_zero}
 use Rattle.tight_rows.proofs.Grids.{sum_none}
 use Rattle.tight_rows.proofs.Writing.{as_before, written_at, row_before}
@@ -88,34 +88,12 @@ module _ (N : ℕ) (x : Target) (L : ℕ) (s : Sender) (plan k : ℕ) (xs ys : L
   abbrev RowAdded : ℕ → ℕ → Type 0
   RowAdded q stay = Leaves (raised plan (suc L) (λ D. row_goes N x (comes_to L D) (mask_in s (words_of xs) k) (units_in s (words_of xs) k) q stay)) xs ys
 
-  pub lost_added : (q stay : ℕ) → q ≡ part_in s (words_of xs) k → stay ≡ stay_in s (words_of xs) k → RowAdded q stay → Leaves (raised plan (suc L) (λ D. goes_from N x L s (words_of xs) D k)) xs ys
-  lost_added q stay e f h = rw (← e, ← f) h
-
   pub kept_added : can_lose x (mask_in s (words_of xs) k) ≡ false → plan + suc L ≤ length xs → RowAdded 0 0 → Leaves (raised plan (suc L) (λ D. goes_from N x L s (words_of xs) D k)) xs ys
   kept_added e l h =
       raised_same plan (suc L) (λ D. row_goes N x (comes_to L D) (mask_in s (words_of xs) k) (units_in s (words_of xs) k) 0 0) (λ D. goes_from N x L s (words_of xs) D k) xs ys l
       (λ D m. goes_whole N x (comes_to L D) (mask_in s (words_of xs) k) (units_in s (words_of xs) k) e (part_in s (words_of xs) k) (stay_in s (words_of xs) k)) h
 
--- without what a way would have
-pub whole_summable : (N : ℕ) (x : Target) (plan L C all q stay : ℕ) (xs : List ℕ) → Summable N x plan L C all q stay xs → Summable N x plan L C all 0 0 xs
-whole_summable N x plan L C all q stay xs ok = record { placed = ok.placed; room = ok.room; ways = ok.ways; fits = λ D l. omega (arith, ok.fits D l) }
-
--- with the sums that the code has for them
-pub as_asked : (N : ℕ) (x : Target) (plan L C all q stay : ℕ) (xs : List ℕ) → Summable N x plan L C all q stay xs → (u v : ℕ) → u ≡ q → v ≡ stay → Summable N x plan L C all u v xs
-as_asked N x plan L C all q stay xs ok u v e f = rw (e, f) ok
-
-module _ (N : ℕ) (x : Target) (plan L C all q stay : ℕ) (xs : List ℕ) (ok : Summable N x plan L C all q stay xs) where
-  pub part_fits : q < 2 ^ 64
-  part_fits = omega (arith, ok.fits 0 zero-le)
-
-  pub stay_fits : stay < 2 ^ 64
-  stay_fits = omega (arith, ok.fits 0 zero-le)
-
 -- ---- what is read
-
--- row k ends where the plan begins, or before
-pub row_end : (s : Sender) (plan n : ℕ) (xs : List ℕ) → Sending s plan n xs → (k : ℕ) → k < s.count → start_at s k + s.length ≤ plan
-row_end s plan n xs ok k l = omega (arith, row_before s.length k s.count l, ok.rows)
 
 -- where only words of the plan differ, what is read of row m is the same
 module _ (s : Sender) (plan n : ℕ) (xs ys : List ℕ) (ok : Sending s plan n xs) (alike : (i : ℕ) → i < length xs → (i < plan) ⊎ (plan + n ≤ i) → words_of ys i ≡ words_of xs i)
@@ -156,12 +134,6 @@ module _ (N : ℕ) (x : Target) (L : ℕ) (s : Sender) (plan : ℕ) (xs : List �
   -- the first m rows have been added
   abbrev pub SummedTo : ℕ → List ℕ → Type 0
   SummedTo m ys = Leaves (raised plan (suc L) (λ D. sum_to m (goes_from N x L s (words_of xs) D))) xs ys
-
-  pub summed_start : SummedTo 0 xs
-  summed_start = raised_none plan (suc L) (λ D. 0) xs (λ D l. refl)
-
-  pub all_summed : (m : ℕ) (ys : List ℕ) → m ≡ s.count → SummedTo m ys → SummedTo s.count ys
-  all_summed m ys e so = subst (λ (n : ℕ). SummedTo n ys) e so
 
   module _ (ok : Sending s plan (suc L) xs) (may : Addable N x L s plan xs) (m : ℕ) (ys : List ℕ) (l : m < s.count) (so : SummedTo m ys) where
     room : plan + suc L ≤ length xs

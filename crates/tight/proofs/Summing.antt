@@ -29,9 +29,6 @@ module _ (plan C E : ℕ) (x : Target) (L u : ℕ) where
   one_lost e D xs b d l =
       rw (b, d) (raised_one plan (suc L) (shared (with (without C e) x.place) L) u xs (suc-le-suc_iff.1 (live_most (with (without C e) x.place) L)) (omega arith))
 
-  pub none_lost : (e : ℕ) (xs : List ℕ) → bit E e ≡ false → Leaves (raised plan (suc L) (λ D. if (bit E e) (lost_one D e))) xs xs
-  none_lost e xs b = raised_none plan (suc L) (λ D. if (bit E e) (lost_one D e)) xs (λ D l. rw b refl)
-
   pub lost_from_none : (xs : List ℕ) → LostTo 0 xs xs
   lost_from_none xs = raised_none plan (suc L) (λ D. lost_below (lost_one D) E 0) xs (λ D l. lost_nothing_yet (lost_one D) E)
 
@@ -67,13 +64,6 @@ module _ (plan C E : ℕ) (x : Target) (L u : ℕ) where
 module _ (N : ℕ) (x : Target) (plan L C all q stay : ℕ) (xs : List ℕ) (ok : Summable N x plan L C all q stay xs) where
   pub all_fits : (D : ℕ) → D ≤ L → words_of xs (plan + D) + all < 2 ^ 64
   all_fits D l = omega (arith, ok.fits D l)
-
-  pub lost_all_fits : (D : ℕ) → D ≤ L → words_of xs (plan + D) + 16 * q < 2 ^ 64
-  lost_all_fits D l = omega (arith, ok.fits D l)
-
-  -- without the units of a hit
-  pub without_hit : Summable N x plan L C 0 q stay xs
-  without_hit = record { placed = ok.placed; room = ok.room; ways = ok.ways; fits = λ D l. omega (arith, ok.fits D l) }
 
   kept_most : (N - size (risk x C)) * q ≤ N * q
   kept_most = mul-le-mul_right q (sub-le N (size (risk x C)))

@@ -3,8 +3,7 @@
 use Rattle.std.specs.Prelude.{◌≡◌, ◌⊎◌, Bool, cond, not, List, ℕ, suc, ◌+◌, ◌*◌, ◌/◌, ◌%◌, ◌^◌, ◌≤◌, ◌<◌, eqb, ltb, length}
 use Rattle.basics.proofs.Sums.{sum_to}
 use Rattle.rules.specs.declared.Target.{Target}
-use Rattle.rules.specs.declared.Last.{Last}
-use Rattle.rules.specs.Contents.{hits, with, shared}
+use Rattle.rules.specs.Contents.{hits, with, shared, Last}
 use Rattle.rules.specs.Filling.{fill_one}
 use Rattle.rules.specs.Units.{whole, more}
 use Rattle.tight_rules.specs.Ends.{allowance}

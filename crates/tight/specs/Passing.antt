@@ -1,9 +1,8 @@
 -- One access from slot to slot, part by part: what must be there, and what each part leaves. The words between two steps are named, so that each step's own record says what it did.
 use Rattle.std.specs.Prelude.{◌≡◌, ◌⊎◌, List, ℕ, suc, ◌+◌, ◌*◌, ◌^◌, ◌≤◌, ◌<◌, length, take, drop}
 use Rattle.basics.proofs.Sums.{sum_to}
-use Rattle.rules.specs.declared.Place.{Place}
 use Rattle.rules.specs.declared.Target.{Target}
-use Rattle.rules.specs.Contents.{size}
+use Rattle.rules.specs.Contents.{size, Place}
 use Rattle.rules.specs.Shape.{Listed}
 use Rattle.plan.specs.Plan.{planned}
 use Rattle.tight_rules.specs.Run.{alive}

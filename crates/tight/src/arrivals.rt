@@ -57,10 +57,8 @@ fn move_rows(work: &mut [u64], s: Sender, t: Receiver, x: Target, live: u64, way
     requires { Receiving t live s work.old × Movings ways x t s work.old }
     ensures { Leaves (plus (λ w i. sum_to s.count (comes_from ways x live t s w i))) work.old work.new }
 {
-    let mut k: usize = 0;
-    while k < s.count {
+    for k in 0..s.count {
         move_row(work, s, t, k, x, live, ways);
-        k += 1;
     }
 }
 

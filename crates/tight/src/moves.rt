@@ -41,10 +41,8 @@ pub(crate) fn move_lost(work: &mut [u64], r: Route, mask: u64, risk: u64, x: Tar
     requires { Listed 16 x.place × Movable r live 16 work.old }
     ensures { Leaves (plus (λ w i. sum_over (λ e. comes r 1 1 (shared (with (without mask e) x.place) live) w i) (held risk))) work.old work.new }
 {
-    let mut at: usize = 0;
-    while at < 16 {
+    for at in 0..16 {
         move_one(work, r, mask, risk, x, live, at);
-        at += 1;
     }
 }
 

@@ -9,10 +9,8 @@ pub(crate) fn row_sum(work: &[u64], from: usize, select: usize, width: usize) ->
     ensures { result ≡ row_sum from select width (words_of work.now) }
 {
     let mut sum: u64 = 0;
-    let mut j: usize = 0;
-    while j < width {
+    for j in 0..width {
         sum += work[from + j] & work[select + j];
-        j += 1;
     }
     sum
 }
@@ -29,10 +27,8 @@ pub(crate) fn add_row(
     requires { Addable from select to width times work.old }
     ensures { Leaves (λ w. replaced to width (with_row from select to times w) w) work.old work.new }
 {
-    let mut j: usize = 0;
-    while j < width {
+    for j in 0..width {
         work[to + j] = work[to + j] + (work[from + j] & work[select + j]) * times;
-        j += 1;
     }
 }
 
@@ -61,9 +57,7 @@ pub(crate) fn split_row(
     requires { Splittable ways row select rest width work.old }
     ensures { Leaves (split_to ways row select rest width) work.old work.new }
 {
-    let mut j: usize = 0;
-    while j < width {
+    for j in 0..width {
         split_cell(work, row + j, select + j, rest + j, ways);
-        j += 1;
     }
 }

@@ -33,10 +33,8 @@ fn select_losing(
     requires { (x.set < 16) × (fronts + width ≤ to) × (backs + width ≤ to) × (to + width ≤ length work.old) }
     ensures { Leaves (λ w. replaced to width (λ j. chosen (loses_at ways x fronts backs w j)) w) work.old work.new }
 {
-    let mut j: usize = 0;
-    while j < width {
+    for j in 0..width {
         work[to + j] = losing_word(work, fronts, backs, j, x, ways);
-        j += 1;
     }
 }
 
@@ -45,10 +43,8 @@ fn select_others(work: &mut [u64], from: usize, to: usize, width: usize)
     requires { (from + width ≤ to) × (to + width ≤ length work.old) }
     ensures { Leaves (λ w. replaced to width (λ j. ones - w (from + j)) w) work.old work.new }
 {
-    let mut j: usize = 0;
-    while j < width {
+    for j in 0..width {
         work[to + j] = 18446744073709551615 - work[from + j];
-        j += 1;
     }
 }
 

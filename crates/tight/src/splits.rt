@@ -50,10 +50,8 @@ pub(crate) fn split_rows(work: &mut [u64], s: Shares, x: Target, ways: u64)
     requires { Listed 16 x.place × Shareable ways s work.old }
     ensures { Shared ways x s s.count work.old work.new }
 {
-    let mut k: usize = 0;
-    while k < s.count {
+    for k in 0..s.count {
         let row = s.rows + k * s.length;
         split_contents(work, s.masks + k, row, s.select, s.rest, s.width, x, ways);
-        k += 1;
     }
 }

@@ -33,10 +33,8 @@ fn stage_rows(work: &mut [u64], s: Sender, stage: usize, cells: usize, x: Target
     requires { Listed 16 x.place × Counting cells stage s work.old × ((j : ℕ) → j < s.width → ColumnFits cells stage j (column_of s (words_of work.old) j) work.old) }
     ensures { CountedTo cells stage x s s.count work.old work.new }
 {
-    let mut k: usize = 0;
-    while k < s.count {
+    for k in 0..s.count {
         stage_row(work, s, stage, cells, k, x);
-        k += 1;
     }
 }
 
@@ -89,11 +87,9 @@ pub(crate) fn put_groups(
     requires { Listed 16 x.place × (x.set < 16) × (ways ≤ 16) × Grouping cells stage fronts backs width work.old }
     ensures { Grouped ways cells stage x fronts backs width work.old work.new }
 {
-    let mut j: usize = 0;
-    while j < width {
+    for j in 0..width {
         let f = filled_at(work, fronts + j, backs + j);
         put_group(work, stage + j, cells + 1, f, filled_after(f, x, ways));
-        j += 1;
     }
 }
 

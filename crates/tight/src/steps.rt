@@ -13,7 +13,7 @@ use crate::stages::{put_groups, send_header, stage_units};
 use crate::totals::sum_all;
 use crate::{Receiver, Sender, SetAside, Shares};
 use plan::reduce;
-use rules::{Place, Target};
+use rules::Target;
 use tables::has_place;
 use tight_rows::Opening;
 use tight_rows::opens::open_rows;
@@ -56,23 +56,29 @@ pub(crate) fn prepare(
 }
 
 // The place, if it is live.
-fn live_place(live: u64, place: Place) -> Place
+fn live_place(live: u64, place: Option<usize>) -> Option<usize>
     requires { Listed 16 place }
     ensures { result ≡ alive live place }
 {
     match place {
-        Place::At(i) => {
+        Some(i) => {
             if has_place(live, i) {
-                return Place::At(i);
+                return Some(i);
             }
-            Place::Untracked
+            None
         }
-        Place::Untracked => Place::Untracked,
+        None => None,
     }
 }
 
 // The plan of `masks` masks at `plan` is reduced to at most `limit` of them. Yields what this sets aside.
-fn reduce_plan(work: &mut [u64], plan: usize, masks: usize, held: Place, limit: usize) -> u64
+fn reduce_plan(
+    work: &mut [u64],
+    plan: usize,
+    masks: usize,
+    held: Option<usize>,
+    limit: usize,
+) -> u64
     requires { plan + (masks + masks) ≤ length work.old }
     ensures { PlanReduced plan masks held limit result work.old work.new }
 {

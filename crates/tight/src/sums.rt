@@ -53,10 +53,8 @@ pub(crate) fn sum_lost(
     requires { Listed 16 x.place × (plan + live < length work.old) × ((D : ℕ) → D ≤ live → words_of work.old (plan + D) + 16 * units < 2 ^ 64) }
     ensures { Leaves (raised plan (suc live) (λ D. lost_to x (comes_to live D) mask risk units)) work.old work.new }
 {
-    let mut at: usize = 0;
-    while at < 16 {
+    for at in 0..16 {
         sum_one(work, plan, mask, risk, x, live, units, at);
-        at += 1;
     }
 }
 

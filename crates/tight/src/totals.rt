@@ -35,10 +35,8 @@ fn sum_rows(work: &mut [u64], s: Sender, plan: usize, x: Target, live: u64, ways
     requires { Sending s plan (suc live) work.old × Addable ways x live s plan work.old }
     ensures { Leaves (raised plan (suc live) (λ D. sum_to s.count (goes_from ways x live s (words_of work.old) D))) work.old work.new }
 {
-    let mut k: usize = 0;
-    while k < s.count {
+    for k in 0..s.count {
         sum_row(work, s, plan, k, x, live, ways);
-        k += 1;
     }
 }
 

@@ -7,7 +7,7 @@ use mathlib.Core.List.{List}
 use Prim.Native.Nat.{ℕ, zero, suc, ◌+◌, ◌-◌, ◌*◌, ◌^◌, ◌≤◌, ◌<◌}
 use native.Mathlib.Nat.{le_of_suc-le-suc, eq-or-lt_of_le, pos_of_ne-zero}
 use native.Mathlib.Omega.{arith}
-use lib.ListN.{length, set}
+use lib.ListN.{length}
 use Rattle.basics.proofs.Sums.{sum_to}
 use Rattle.rules.specs.Units.{whole, more}
 use Rattle.rules.specs.declared.State.{State}
@@ -19,10 +19,10 @@ use Rattle.tight_rows.specs.Room.{words_of, count_at, base_at, width_at, mask_at
 use Rattle.tight_rows.specs.Grid.{Grid, grid_of, table_of, rows_of}
 use Rattle.tight_ends.specs.Stage.{Groups, groups_of, Staged}
 use Rattle.tight_ends.specs.Settling.{both, settled_filled, unlike_to}
-use Rattle.tight_ends.specs.Ending.{Topped, Bottomed, Staging, FilledPlaces, FilledAll, FilledThere}
+use Rattle.tight_ends.specs.Ending.{Topped, Bottomed, Staging, FilledAll, FilledThere}
 use Rattle.tight_ends.specs.Keeping.{row_in, KeptTo}
 use Rattle.tight_ends.specs.Ended.{Endable, HeaderPut, SlotEnded, RowsEnded}
-use Rattle.tight_rows.proofs.Writing.{four_long, four_beside, four_first, four_second, four_third, four_fourth, row_in_lem}
+use Rattle.tight_rows.proofs.Writing.{row_in_lem}
 use Rattle.tight_rows.proofs.Adding.{sum_part}
 use Rattle.tight_ends.proofs.Assembled.{slot_kept, slot_neat}
 use Rattle.tight_ends.proofs.EndsFound.{staging_part}
@@ -66,47 +66,10 @@ module _ (K W a e : ℕ) (ws : List ℕ) (r : Rows) (staged : Staged K W (grid_o
         lost = omega (arith, staged.lost, staged.full);
       }
 
--- ---- the header
-
--- its four words, written one after the other
-pub header_put : (a rows bot wide gone : ℕ) (xs : List ℕ) → a + 4 ≤ length xs
-    → HeaderPut a rows bot wide gone xs (set (set (set (set xs a rows) (a + 1) (words_of xs (a + 1) + bot)) (a + 2) wide) (a + 3) (words_of xs (a + 3) + gone))
-header_put a rows bot wide gone xs l =
-    record {
-      long = four_long a (a + 1) (a + 2) (a + 3) rows base wide lost xs;
-      count = four_first a (a + 1) (a + 2) (a + 3) rows base wide lost xs (omega arith) (omega arith) (omega arith) (omega arith);
-      base = four_second a (a + 1) (a + 2) (a + 3) rows base wide lost xs (omega arith) (omega arith) (omega arith) (omega arith);
-      width = four_third a (a + 1) (a + 2) (a + 3) rows base wide lost xs (omega arith) (omega arith) (omega arith) (omega arith);
-      lost = four_fourth a (a + 1) (a + 2) (a + 3) rows base wide lost xs (omega arith) (omega arith) (omega arith) (omega arith);
-      rest = λ p m o. four_beside a (a + 1) (a + 2) (a + 3) rows base wide lost xs p (λ e. out o (omega arith) (omega arith)) (λ e. out o (omega arith) (omega arith)) (λ e. out o (omega arith) (omega arith))
-          (λ e. out o (omega arith) (omega arith));
-    }
-  where
-    base : ℕ
-    base = words_of xs (a + 1) + bot
-
-    lost : ℕ
-    lost = words_of xs (a + 3) + gone
-
-    out : {p : ℕ} → (p < a) ⊎ (a + 4 ≤ p) → a ≤ p → p < a + 4 → ⊥
-    out (inl h) m n = absurd (omega arith)
-    out (inr h) m n = absurd (omega arith)
-
 -- ---- the slot
 
 module _ (K W a e bot top gone : ℕ) (xs : List ℕ) (ok : Endable K W a e xs) (below : bot < top) (within : top ≤ words_of xs (width_at a)) (light : gone ≤ whole) where
   module _ (o : ℕ) (ys : List ℕ) (so : KeptTo K W a bot (top - bot) (words_of xs (count_at a)) o xs ys) where
-    pub may_fill_lem : FilledPlaces W e bot (a + 4 + 2 * K) (a + 4 + 2 * K + W) (top - bot) ys
-    may_fill_lem =
-        record {
-          within = omega (arith, ok.narrow);
-          inside = omega (arith, ok.inside, so.long);
-          order = omega (arith, ok.narrow);
-          end = omega (arith, ok.narrow, ok.behind, ok.inside, so.long);
-          front = inl (omega (arith, ok.narrow, ok.behind));
-          back = inl (omega (arith, ok.narrow, ok.behind));
-        }
-
     stage_kept : SameStage W e ys xs
     stage_kept p l m = so.rest p (omega (arith, ok.inside)) (inr (inr (omega (arith, ok.behind))))
 
@@ -114,13 +77,6 @@ module _ (K W a e bot top gone : ℕ) (xs : List ℕ) (ok : Endable K W a e xs) 
       head_same : (i : ℕ) → i < 4 → words_of zs (a + i) ≡ words_of xs (a + i)
       head_same i l =
           filled.beside (a + i) (omega (arith, ok.behind, ok.inside, so.long)) (inl (omega arith)) (inl (omega arith)) ∙ so.rest (a + i) (omega (arith, ok.behind, ok.inside)) (inl (omega arith))
-
-      pub may_head : (a + 4 ≤ length zs) × (words_of zs (a + 1) + bot < 2 ^ 64) × (words_of zs (a + 3) + gone < 2 ^ 64)
-      may_head = (
-        omega (arith, filled.long, so.long, ok.behind, ok.inside),
-        omega (arith, head_same 1 (omega arith), ok.base, ok.narrow),
-        omega (arith, head_same 3 (omega arith), ok.lost),
-      )
 
       module _ (vs : List ℕ) (head : HeaderPut a o bot (top - bot) gone zs vs) where
         -- beside the header and the filled numbers the words are those of the rows kept

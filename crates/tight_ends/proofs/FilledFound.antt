@@ -13,7 +13,7 @@ use Rattle.tight_ends.specs.Stage.{Groups, groups_of}
 use Rattle.tight_ends.specs.Ending.{Staging}
 use Rattle.tight_ends.specs.Settling.{in_use, filled_in, filled_to, both, settled_filled, unlike, unlike_to}
 use Rattle.tight_rows.specs.Grid.{filled_words}
-use Rattle.tight_ends.proofs.EndsFound.{column_most, staging_part}
+use Rattle.tight_ends.proofs.EndsFound.{staging_part}
 
 module _ (W e j : ℕ) (w : Words) where
   hit_units_lem : w (e + j) ≡ (groups_of W e w).hit_units j
@@ -47,9 +47,6 @@ module _ (W e j : ℕ) (w : Words) where
 pub unlike_most : (h : Groups) (j : ℕ) (F : Filled) → unlike h j F ≤ h.hit_units j + h.missed_units j
 unfolding unlike
 unlike_most h j F = omega (arith, part_most (not (same_filled (h.hit j) F)) (h.hit_units j), part_most (not (same_filled (h.missed j) F)) (h.missed_units j))
-
-pub unlike_fits : (W e j : ℕ) (ws : List ℕ) (F : Filled) (x : ℕ) → Staging W e (suc j) ws → x ≡ unlike (groups_of W e (words_of ws)) j F → x < 2 ^ 64
-unlike_fits W e j ws F x s p = omega (arith, unlike_most (groups_of W e (words_of ws)) j F, column_most W e j (suc j) ws (omega arith) s)
 
 -- one cell more
 pub filled_to_next : (h : Groups) (j : ℕ) (F G r : Filled) → F ≡ filled_to h j → G ≡ filled_in h j → r ≡ fullest F G → r ≡ filled_to h (j + 1)

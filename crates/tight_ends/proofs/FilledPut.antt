@@ -80,9 +80,6 @@ module _ (W e : ℕ) (ys xs : List ℕ) (same : SameStage W e ys xs) where
 -- ---- cell by cell
 
 module _ (W e bot fronts backs wide : ℕ) (xs : List ℕ) (ok : FilledPlaces W e bot fronts backs wide xs) where
-  pub all_start : FilledAll W e bot fronts backs 0 xs xs
-  all_start = record { long = refl; front = λ i l. absurd (omega arith); back = λ i l. absurd (omega arith); beside = λ p l a b. refl }
-
   module _ (n : ℕ) (ys : List ℕ) (l : n < wide) (so : FilledAll W e bot fronts backs n xs ys) where
     -- the stage is as it was
     stage_same : SameStage W e ys xs

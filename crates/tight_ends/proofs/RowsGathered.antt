@@ -13,17 +13,7 @@ use Rattle.basics.proofs.Sums.{sum_to}
 use Rattle.tight_rows.specs.Room.{words_of, Leaves}
 use Rattle.tight_rows.specs.Rows.{replaced}
 use Rattle.tight_ends.specs.Settling.{gathered, gathered_row, Gathering}
-use Rattle.tight_rows.proofs.Writing.{is_within_lem, not_within, within_cases, Written, as_before, one_more_lem}
-
--- ---- a copy
-
--- the word that is read has not been written yet
-pub copy_more : (from to j : ℕ) (xs ys : List ℕ) → to ≤ from → from + j < length xs → Written to (λ w i. w (from + i)) j xs ys
-    → Written to (λ w i. w (from + i)) (j + 1) xs (set ys (to + j) (words_of ys (from + j)))
-copy_more from to j xs ys l m h =
-    one_more_lem to (λ w i. w (from + i)) j xs ys (words_of ys (from + j)) h (omega arith) (as_before to (λ w i. w (from + i)) j xs ys h (from + j) m (inr (omega arith)))
-
--- ---- all of it
+use Rattle.tight_rows.proofs.Writing.{is_within_lem, not_within, within_cases}
 
 module _ (from to bot wide cells first : ℕ) (xs ys vs : List ℕ) (ok : Gathering from to bot wide cells xs)
     (sum : first ≡ sum_to (bot + 1) (λ j. words_of xs (from + j)))

@@ -25,21 +25,19 @@ pub(crate) fn find_top(work: &[u64], stage: usize, cells: usize, width: usize) -
     requires { (1 ≤ width) × Staging cells stage width work.now }
     ensures { Topped (both (groups_of cells stage (words_of work.now))) width result.columns result.units }
 {
-    let mut top = width;
     let mut gone: u64 = 0;
-    while 1 < top {
-        let units = column_units(work, stage, cells, top - 1);
+    for j in (1..width).rev() {
+        let units = column_units(work, stage, cells, j);
         if 4096 < gone + units {
             return Part {
-                columns: top,
+                columns: j + 1,
                 units: gone,
             };
         }
         gone += units;
-        top -= 1;
     }
     Part {
-        columns: top,
+        columns: 1,
         units: gone,
     }
 }
@@ -60,9 +58,8 @@ pub(crate) fn find_bottom(work: &[u64], stage: usize, cells: usize, top: usize) 
     requires { (1 ≤ top) × Staging cells stage top work.now }
     ensures { Bottomed (both (groups_of cells stage (words_of work.now))) cells top result.columns result.units }
 {
-    let mut bottom: usize = 0;
     let mut low: u64 = 0;
-    while bottom + 1 < top {
+    for bottom in 0..top - 1 {
         let units = low + column_units(work, stage, cells, bottom);
         if stays(units, bottom, top, cells) {
             return Part {
@@ -71,10 +68,9 @@ pub(crate) fn find_bottom(work: &[u64], stage: usize, cells: usize, top: usize) 
             };
         }
         low = units;
-        bottom += 1;
     }
     Part {
-        columns: bottom,
+        columns: top - 1,
         units: low,
     }
 }
@@ -84,11 +80,7 @@ fn copy_down(work: &mut [u64], from: usize, to: usize, n: usize)
     requires { (to ≤ from) × (from + n ≤ length work.old) }
     ensures { Leaves (λ w. replaced to n (λ j. w (from + j)) w) work.old work.new }
 {
-    let mut j: usize = 0;
-    while j < n {
-        work[to + j] = work[from + j];
-        j += 1;
-    }
+    work.copy_within(from..from + n, to);
 }
 
 // The row at `from`, its first `bottom` cells risen and `width` cells left, goes to `to`.
@@ -149,11 +141,9 @@ pub(crate) fn keep_rows(
     requires { KeepingAll contents cells slot bottom width rows work.old }
     ensures { KeptTo contents cells slot bottom width rows result work.old work.new }
 {
-    let mut k: usize = 0;
     let mut to: usize = 0;
-    while k < rows {
+    for k in 0..rows {
         to = keep_row(work, slot, contents, cells, k, to, bottom, width);
-        k += 1;
     }
     to
 }

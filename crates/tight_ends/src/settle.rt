@@ -39,10 +39,8 @@ fn filled_to(work: &[u64], stage: usize, cells: usize, n: usize) -> Filled
     ensures { result ≡ filled_to (groups_of cells stage (words_of work.now)) n }
 {
     let mut f = Filled { front: 0, back: 0 };
-    let mut j: usize = 0;
-    while j < n {
+    for j in 0..n {
         f = fullest(f, filled_in(work, stage, cells, j));
-        j += 1;
     }
     f
 }
@@ -111,10 +109,8 @@ pub(crate) fn put_all_filled(
     requires { FilledPlaces cells stage bottom fronts backs width work.old }
     ensures { FilledAll cells stage bottom fronts backs width work.old work.new }
 {
-    let mut i: usize = 0;
-    while i < width {
+    for i in 0..width {
         put_filled(work, stage, cells, bottom, fronts, backs, i);
-        i += 1;
     }
 }
 
@@ -142,12 +138,10 @@ pub(crate) fn unlike_to(
     ensures { result ≡ unlike_to (groups_of cells stage (words_of work.now)) bottom top }
 {
     let mut sum: u64 = 0;
-    let mut j: usize = 0;
-    while j < top {
+    for j in 0..top {
         let i = beyond(j, bottom);
         let f = filled_at(work, fronts + i, backs + i);
         sum += unlike(work, stage, cells, j, f);
-        j += 1;
     }
     sum
 }

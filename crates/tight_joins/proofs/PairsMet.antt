@@ -22,7 +22,7 @@ use Rattle.tight_joins.specs.Meeting.{left_row, right_row, units_in, meets, Pair
 use Rattle.tight_joins.specs.declared.Band.{Band}
 use Rattle.tight_joins.specs.Piling.{row_start, OffRows}
 use Rattle.tight_rows.proofs.Writing.{Written, as_before, written_at, one_more_lem, row_before}
-use Rattle.tight_rows.proofs.Raising.{raised_at, raised_beside, raised_then, raised_one, raised_none}
+use Rattle.tight_rows.proofs.Raising.{raised_at, raised_beside, raised_then, raised_one}
 use Rattle.tight_rows.proofs.Adding.{sum_part, apart_place}
 
 -- ---- pairs whose words are the same
@@ -52,24 +52,7 @@ pair_same p n k xs ys ok l f g h =
           (ap (λ (r : ℕ). words_of ys (p.right.masks + r)) j ∙ h (right_row p (words_of xs) k) (ok.right k l));
     }
 
--- the masks of a pair's rows are there
-pub left_mask_there : (p : Sides) (n k : ℕ) (xs : List ℕ) → PairsThere p n xs → k < n → p.left.masks + left_row p (words_of xs) k < length xs
-left_mask_there p n k xs ok l = omega (arith, ok.left k l, ok.placed.left, ok.placed.before, ok.placed.end)
-
-pub right_mask_there : (p : Sides) (n k : ℕ) (xs : List ℕ) → PairsThere p n xs → k < n → p.right.masks + right_row p (words_of xs) k < length xs
-right_mask_there p n k xs ok l = omega (arith, ok.right k l, ok.placed.right, ok.placed.behind, ok.placed.end)
-
 -- ---- units by mask
-
--- one pair
-module _ (p : Sides) (plan k C : ℕ) (xs : List ℕ) (e : C ≡ meets p (words_of xs) k) where
-  pub may_add : words_of xs (plan + meets p (words_of xs) k) + units_in p (words_of xs) k < 2 ^ 64 → words_of xs (plan + C) + units_in p (words_of xs) k < 2 ^ 64
-  may_add f = rw e f
-
-  pub pair_added_lem : (ys : List ℕ) → ys ≡ set xs (plan + C) (words_of xs (plan + C) + units_in p (words_of xs) k) → ys ≡ pair_added p plan k xs
-  pair_added_lem ys put = put ∙ ap (λ (D : ℕ). set xs (plan + D) (words_of xs (plan + D) + units_in p (words_of xs) k)) e
-
--- all of them
 
 module _ (p : Sides) (plan n : ℕ) (xs : List ℕ) (ok : Summable p plan n xs) where
   -- the words between
@@ -85,9 +68,6 @@ module _ (p : Sides) (plan n : ℕ) (xs : List ℕ) (ok : Summable p plan n xs) 
 
   meet_low : (k : ℕ) → k < n → meets p (words_of xs) k < masks
   meet_low k l = omega (arith, ok.meeting k l)
-
-  pub no_sums : SumsTo 0 xs
-  no_sums = raised_none plan masks (λ D. 0) xs (λ D l. refl)
 
   module _ (k : ℕ) (ys : List ℕ) (l : k < n) (so : SumsTo k ys) where
     untouched : (q : ℕ) → q < length xs → (q < plan) ⊎ (plan + masks ≤ q) → words_of ys q ≡ words_of xs q
@@ -135,10 +115,6 @@ module _ (p : Sides) (plan n : ℕ) (xs : List ℕ) (ok : Summable p plan n xs) 
         (subst (λ (vs : List ℕ). Leaves (raised plan masks (λ D. comes_by p (words_of ys) D k)) ys vs) (sym put)
         (raised_one plan masks (meets p (words_of ys) k) (units_in p (words_of ys) k) ys (omega (arith, (same k l).meet, meet_low k l)) (omega (arith, so.long, inside)))) inside
         (λ D m. rw (add-one k) (ap (λ (u : ℕ). sum_to k (comes_by p (words_of xs) D) + u) (ap₂ (λ (C u : ℕ). if (eqb C D) u) (sym (same k l).meet) (sym (same k l).units))))
-
-  pub all_summed : (k : ℕ) (ys : List ℕ) → k ≡ n → SumsTo k ys → Leaves (λ w. raised plan (p.pairs - plan) (λ D. sum_to n (comes_by p w D)) w) xs ys
-  all_summed k ys e so =
-      record { long = so.long; word = subst (λ (m : ℕ). (i : ℕ) → i < length xs → words_of ys i ≡ raised plan masks (λ D. sum_to m (comes_by p (words_of xs) D)) (words_of xs) i) e so.word }
 
 -- ---- rows
 
@@ -258,10 +234,6 @@ module _ (m : Meeting) (i j r x : ℕ) (xs : List ℕ) (ok : RowsMeet m i j r x 
               m.to.width xs ys done q l o;
         }
 
--- the row is that of a mask
-pub met_there : (m : Meeting) (i j x D E : ℕ) (xs ys : List ℕ) → D ≡ E → RowsMet m i j (words_of xs (m.numbers + D)) x xs ys → RowsMet m i j (words_of xs (m.numbers + E)) x xs ys
-met_there m i j x D E xs ys e h = subst (λ (C : ℕ). RowsMet m i j (words_of xs (m.numbers + C)) x xs ys) e h
-
 -- ---- pair after pair
 
 -- a part of fewer units is less
@@ -279,12 +251,6 @@ off_rows : (b : Band) (q : ℕ) → b.width ≤ b.length → (q < b.rows) ⊎ (b
 off_rows b q w o k l = ⊎_elim (λ d. inl (omega arith)) (λ d. inr (omega (arith, row_before b.length k b.count l))) o
 
 module _ (m : Meeting) (n : ℕ) (xs : List ℕ) (ok : MeetAll m n xs) where
-  pub none_met : MetTo m 0 xs xs
-  none_met = record { long = refl; left = ok.left; right = ok.right; cells = λ r c l h. omega arith; rest = λ q l a b o. refl }
-
-  pub all_met : (k : ℕ) (ys : List ℕ) → k ≡ n → MetTo m k xs ys → MetTo m n xs ys
-  all_met k ys e so = subst (λ (h : ℕ). MetTo m h xs ys) e so
-
   module _ (k : ℕ) (ys : List ℕ) (l : k < n) (so : MetTo m k xs ys) where
     abbrev p : Sides
     p = m.sides

@@ -1,5 +1,5 @@
 -- Rows that become heights, and cells again: cell by cell from the front, where what is read stands there as it was; and row by row, for anything that is made of a row's cells.
-use mathlib.Core.Path.{◌≡◌, refl, sym, ap, ap₂, ◌∙◌, subst}
+use mathlib.Core.Path.{◌≡◌, refl, sym, ap, ap₂, ◌∙◌}
 use mathlib.Core.Logic.{inl, inr, ⊎_elim}
 use mathlib.Core.Bool.{Bool, true, false, cond}
 use mathlib.Core.List.{List}
@@ -9,7 +9,7 @@ use native.Mathlib.Decide.{ℕ_discrete}
 use native.Mathlib.Omega.{arith}
 use lib.Dec.{ltb}
 use lib.ListN.{length, set}
-use borrow.Author.Tests.{ltb-true, ltb-false, lt-ltb, le-ltb}
+use borrow.Author.Tests.{ltb-true, ltb-false}
 use Rattle.basics.proofs.Sums.{sum_to, sum_eq}
 use Rattle.tight_joins.specs.declared.Band.{Band}
 use Rattle.tight_rows.specs.Room.{Words, words_of, Leaves}
@@ -81,12 +81,6 @@ module _ (a n : ℕ) (xs ys : List ℕ) (j : ℕ) (l : j < n) (room : a + n ≤ 
           rw (as_before a (stepped n a) j xs ys h (a + j) (omega arith) (inr (omega arith)), as_before a (stepped n a) j xs ys h (a + suc j) (omega arith) (inr (omega arith))) refl
       same false k = rw (as_before a (stepped n a) j xs ys h (a + j) (omega arith) (inr (omega arith))) refl
 
-pub next_there : (a n j : ℕ) (w : Words) → j + 1 < n → w (a + j + 1) ≡ next_height n a w j
-next_there a n j w l = rw (lt-ltb (suc j) n (omega arith)) (ap w (let e : a + j + 1 ≡ a + suc j = omega arith in e))
-
-pub next_none : (a n j : ℕ) (w : Words) → n ≤ j + 1 → 0 ≡ next_height n a w j
-next_none a n j w l = rw (le-ltb (suc j) n (omega arith)) refl
-
 -- ---- row after row
 
 -- what is made of a row is made of its n cells alone
@@ -115,12 +109,6 @@ stepped_own n a w w' h j l = go (ltb (suc j) n) refl
     go false e = rw (h j l) refl
 
 module _ (b : Band) (v : ℕ → Words → ℕ → ℕ) (xs : List ℕ) (ok : Banded b xs) where
-  pub no_rows : EachRow b v 0 xs xs
-  no_rows = record { long = refl; cells = λ k j l. absurd (omega arith); rest = λ i l o. refl }
-
-  pub all_rows : (m : ℕ) (ys : List ℕ) → m ≡ b.count → EachRow b v m xs ys → EachRow b v b.count xs ys
-  all_rows m ys e so = subst (λ (n : ℕ). EachRow b v n xs ys) e so
-
   module _ (m : ℕ) (ys : List ℕ) (l : m < b.count) (so : EachRow b v m xs ys) where
     pub row_inside : row_start b m + b.width ≤ length xs
     row_inside = omega (arith, ok.wide, ok.inside, row_before b.length m b.count l)

@@ -7,7 +7,7 @@ ghost use Rattle.tight_joins.specs.Meeting.{left_row, right_row, units_in, meets
 
 use crate::Meeting;
 use tight_pairs::Sides;
-use tight_rows::rows::{add_units, larger, less, smaller};
+use tight_rows::rows::add_units;
 
 // The blocks that the rows of pair `k` share.
 pub(crate) fn pair_mask(work: &[u64], p: Sides, n: usize, k: usize) -> u64
@@ -35,10 +35,8 @@ pub(crate) fn sum_pairs(work: &mut [u64], p: Sides, plan: usize, n: usize)
     requires { Summable p plan n work.old }
     ensures { Leaves (λ w. raised plan (p.pairs - plan) (λ D. sum_to n (comes_by p w D)) w) work.old work.new }
 {
-    let mut k: usize = 0;
-    while k < n {
+    for k in 0..n {
         sum_pair(work, p, plan, n, k);
-        k += 1;
     }
 }
 
@@ -46,7 +44,8 @@ pub(crate) fn sum_pairs(work: &mut [u64], p: Sides, plan: usize, n: usize)
 fn met(a: u64, ours: u64, b: u64, theirs: u64, units: u64) -> u64
     ensures { result ≡ min units (max (a - ours) (b - theirs)) }
 {
-    smaller(units, larger(less(a, ours), less(b, theirs)))
+    let free = a.saturating_sub(ours).max(b.saturating_sub(theirs));
+    units.min(free)
 }
 
 // To the row at `to` is added how many of `units` units lie at or above each cell.
@@ -63,11 +62,9 @@ fn meet_rows(
     requires { Meetable left right to width units work.old }
     ensures { Leaves (λ w. raised to width (met_at left ours right theirs units w) w) work.old work.new }
 {
-    let mut j: usize = 0;
-    while j < width {
+    for j in 0..width {
         let more = met(work[left + j], ours, work[right + j], theirs, units);
         work[to + j] = work[to + j] + more;
-        j += 1;
     }
 }
 
@@ -105,9 +102,7 @@ pub(crate) fn meet_pairs(work: &mut [u64], m: Meeting, n: usize)
     requires { MeetAll m n work.old }
     ensures { MetTo m n work.old work.new }
 {
-    let mut k: usize = 0;
-    while k < n {
+    for k in 0..n {
         meet_pair(work, m, n, k);
-        k += 1;
     }
 }

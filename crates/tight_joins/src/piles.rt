@@ -6,7 +6,7 @@ ghost use Rattle.tight_rows.specs.Rows.{replaced};
 ghost use Rattle.tight_joins.specs.Piling.{piled, next_height, stepped, Banded, EachRow, Light};
 
 use crate::Band;
-use tight_rows::rows::{clear_row, less, sum_of};
+use tight_rows::rows::{clear_row, sum_of};
 
 // The first `width` - `by` of `width` words at `at` become heights, each of the cell that is `by` further on.
 fn pile_on(work: &mut [u64], at: usize, width: usize, by: usize)
@@ -16,12 +16,10 @@ fn pile_on(work: &mut [u64], at: usize, width: usize, by: usize)
     let all = sum_of(work, at, width);
     let below = sum_of(work, at, by);
     let mut left = all - below;
-    let mut j: usize = 0;
-    while j < width - by {
+    for j in 0..width - by {
         let units = work[at + by + j];
         work[at + j] = left;
         left -= units;
-        j += 1;
     }
 }
 
@@ -39,11 +37,9 @@ pub(crate) fn pile_rows(work: &mut [u64], b: Band, by: usize)
     requires { Banded b work.old × (by ≤ b.width) × Light b work.old }
     ensures { EachRow b (piled by b.width) b.count work.old work.new }
 {
-    let mut k: usize = 0;
-    while k < b.count {
+    for k in 0..b.count {
         let row = b.rows + k * b.length;
         pile_row(work, row, b.width, by);
-        k += 1;
     }
 }
 
@@ -63,11 +59,9 @@ fn step_row(work: &mut [u64], at: usize, width: usize)
     requires { at + width ≤ length work.old }
     ensures { Leaves (λ w. replaced at width (stepped width at w) w) work.old work.new }
 {
-    let mut j: usize = 0;
-    while j < width {
+    for j in 0..width {
         let next = next_height(work, at, width, j);
-        work[at + j] = less(work[at + j], next);
-        j += 1;
+        work[at + j] = work[at + j].saturating_sub(next);
     }
 }
 
@@ -76,10 +70,8 @@ pub(crate) fn step_rows(work: &mut [u64], b: Band)
     requires { Banded b work.old }
     ensures { EachRow b (stepped b.width) b.count work.old work.new }
 {
-    let mut k: usize = 0;
-    while k < b.count {
+    for k in 0..b.count {
         let row = b.rows + k * b.length;
         step_row(work, row, b.width);
-        k += 1;
     }
 }

@@ -1,6 +1,6 @@
--- Rows paired in turn. Pairs of some rows and then of others are pairs of both (paired-then), so that every loop over rows adds its rows to those before; and one pair takes what
+-- Rows paired in turn. Pairs of some rows and then of others are pairs of both (paired_then), so that every loop over rows adds its rows to those before; and one pair takes what
 -- both rows have left, which uses one of them up: there are never more pairs than rows.
-use mathlib.Core.Path.{◌≡◌, refl, sym, ap, ap₂, ◌∙◌, fun_ext, subst}
+use mathlib.Core.Path.{◌≡◌, refl, sym, ap, ap₂, ◌∙◌, fun_ext}
 use mathlib.Core.Logic.{inl, inr, ⊎_elim, ◌≢◌}
 use mathlib.Core.Bool.{Bool, true, false, cond}
 use mathlib.Core.List.{List, [], ◌∷◌, ◌++◌, append-nil, append_assoc}
@@ -138,14 +138,6 @@ module _ (p : Sides) where
         room = g.room;
         beside = λ q l o. g.beside q (omega (arith, f.long)) (record { left = o.left; right = o.right; pairs = ⊎_elim (λ d. inl (omega (arith, f.more))) (λ d. inr d) o.pairs })
             ∙ f.beside q l o;
-      }
-
-  pub still_pairable : (cs : List Two) (n r : ℕ) (xs ys : List ℕ) → Pairable p n xs → PairedTo p cs n r xs ys → Pairable p r ys
-  still_pairable cs n r xs ys ok f =
-      let at = ok.placed in
-      record {
-        placed = record { left = at.left; right = at.right; apart = at.apart; before = at.before; behind = at.behind; end = omega (arith, f.long, at.end) };
-        room = f.room;
       }
 
   -- before the first pair no more rows have units left than there are
@@ -377,9 +369,6 @@ module _ (p : Sides) where
         rw (add-one j) (paired_then (row_with shares blocks i j) (cond (eqb (shares i j) blocks) (two i j ∷ []) []) n m r xs ys zs f
         (rw (← still_shared (row_with shares blocks i j) n m xs ys ok.placed f i j k l) g))
 
-    pub row_all : (blocks i j r : ℕ) (ys : List ℕ) → j ≡ p.right.rows → PairedTo p (row_with shares blocks i j) n r xs ys → PairedTo p (row_with shares blocks i p.right.rows) n r xs ys
-    row_all blocks i j r ys e f = subst (λ (m : ℕ). PairedTo p (row_with shares blocks i m) n r xs ys) e f
-
     -- nothing is left of row i
     pub row_none : (blocks i j : ℕ) → lefts xs i ≡ 0 → PairedTo p (row_with shares blocks i j) n n xs xs
     unfolding row_with
@@ -409,10 +398,6 @@ module _ (p : Sides) where
         rw (add-one i) (paired_then (rows_with shares blocks p.right.rows i) (row_with shares blocks i p.right.rows) n m r xs ys zs f
         (rw (← rows_same ys (still_shared (rows_with shares blocks p.right.rows i) n m xs ys ok.placed f) blocks i p.right.rows k (le_refl p.right.rows)) g))
 
-    pub rows_all : (blocks i r : ℕ) (ys : List ℕ) → i ≡ p.left.rows → PairedTo p (rows_with shares blocks p.right.rows i) n r xs ys
-        → PairedTo p (rows_with shares blocks p.right.rows p.left.rows) n r xs ys
-    rows_all blocks i r ys e f = subst (λ (m : ℕ). PairedTo p (rows_with shares blocks p.right.rows m) n r xs ys) e f
-
     level_same : (ys : List ℕ) → ((i j : ℕ) → i < p.left.rows → j < p.right.rows → shared_by p (words_of ys) i j ≡ shares i j) → (blocks i : ℕ) → i ≤ p.left.rows
         → rows_with (shared_by p (words_of ys)) blocks p.right.rows i ≡ rows_with shares blocks p.right.rows i
     unfolding rows_with
@@ -429,7 +414,3 @@ module _ (p : Sides) where
     turns_next k m r ys zs f g =
         rw (add-one k) (paired_then (turns_to shares p.left.rows p.right.rows k) (rows_with shares (places - k) p.right.rows p.left.rows) n m r xs ys zs f
         (rw (← level_same ys (still_shared (turns_to shares p.left.rows p.right.rows k) n m xs ys ok.placed f) (places - k) p.left.rows (le_refl p.left.rows)) g))
-
-    pub turns_all : (k r : ℕ) (ys : List ℕ) → k ≡ 17 → PairedTo p (turns_to shares p.left.rows p.right.rows k) n r xs ys
-        → PairedTo p (turns_to shares p.left.rows p.right.rows 17) n r xs ys
-    turns_all k r ys e f = subst (λ (m : ℕ). PairedTo p (turns_to shares p.left.rows p.right.rows m) n r xs ys) e f

@@ -3,9 +3,7 @@ use mathlib.Core.Path.{◌≡◌}
 use mathlib.Core.Logic.{◌⊎◌, inl, inr, ⊎_elim}
 use mathlib.Core.Bool.{true, ◌&&◌}
 use mathlib.Core.List.{List}
-use Prim.Native.Nat.{ℕ, ◌+◌, ◌-◌, ◌*◌, ◌/◌, ◌≤◌}
-use native.Mathlib.Nat.{le-div_iff_mul-le}
-use native.Mathlib.Omega.{arith}
+use Prim.Native.Nat.{ℕ, ◌+◌, ◌*◌, ◌≤◌}
 use lib.Dec.{leb}
 use lib.ListN.{length}
 use borrow.Author.Tests.{leb-true, le-leb}
@@ -13,15 +11,6 @@ use Rattle.basics.proofs.Bools.{and_left, and_right, both, three, or_cases, or_l
 use Rattle.tight_pairs.specs.declared.Side.{Side}
 use Rattle.tight_pairs.specs.declared.Sides.{Sides}
 use Rattle.tight_pairs.specs.Matching.{is_side, are_apart, has_room, is_placed, Placed}
-use Rattle.tight_rows.proofs.Tests.{alike}
-
--- a third of the words for each pair
-pub room_there : (p : Sides) (all : ℕ) → p.pairs ≤ all → leb (p.left.rows + p.right.rows) ((all - p.pairs) / 3) ≡ has_room p all
-room_there p all l =
-    let n = p.left.rows + p.right.rows in
-    alike n ((all - p.pairs) / 3) (p.pairs + 3 * n) all
-    (λ h. let k : n * 3 ≤ all - p.pairs = (le-div_iff_mul-le {k = 3} {x = n} {y = all - p.pairs} (omega arith)).0 h in omega arith)
-    (λ h. (le-div_iff_mul-le {k = 3} {x = n} {y = all - p.pairs} (omega arith)).1 (omega arith))
 
 module _ (p : Sides) (xs : List ℕ) where
   pub placed_told : is_placed p (length xs) ≡ true → Placed p xs

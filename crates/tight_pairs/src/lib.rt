@@ -6,7 +6,7 @@ ghost use Rattle.tight_rows.specs.Room.{words_of, Where};
 ghost use Rattle.tight_pairs.specs.Matching.{two, row_with, rows_with, turns_to, shared_by, is_side, are_apart, has_room, is_placed, Placed, Pairable, pair_put, PairedTo};
 
 use tables::size_of;
-use tight_rows::rows::{ends_by, smaller};
+use tight_rows::rows::ends_by;
 
 // The rows of a table that is paired with another: `rows` masks from `masks` on, and as many words from `units` on for what is left of each row's units.
 #[derive(Clone, Copy)]
@@ -44,7 +44,7 @@ fn pair_two(work: &mut [u64], p: Sides, i: usize, j: usize, n: usize) -> usize
     requires { Pairable p n work.old × (i < p.left.rows) × (j < p.right.rows) }
     ensures { PairedTo p (two i j ∷ []) n result work.old work.new }
 {
-    let units = smaller(work[p.left.units + i], work[p.right.units + j]);
+    let units = work[p.left.units + i].min(work[p.right.units + j]);
     if units == 0 {
         return n;
     }
@@ -69,11 +69,9 @@ fn pair_row(work: &mut [u64], p: Sides, blocks: u64, i: usize, pairs: usize) -> 
     requires { Pairable p pairs work.old × (i < p.left.rows) }
     ensures { PairedTo p (row_with (shared_by p (words_of work.old)) blocks i p.right.rows) pairs result work.old work.new }
 {
-    let mut j: usize = 0;
     let mut n = pairs;
-    while j < p.right.rows {
+    for j in 0..p.right.rows {
         n = pair_sharing(work, p, blocks, i, j, n);
-        j += 1;
     }
     n
 }
@@ -94,11 +92,9 @@ fn pair_rows(work: &mut [u64], p: Sides, blocks: u64, pairs: usize) -> usize
     requires { Pairable p pairs work.old }
     ensures { PairedTo p (rows_with (shared_by p (words_of work.old)) blocks p.right.rows p.left.rows) pairs result work.old work.new }
 {
-    let mut i: usize = 0;
     let mut n = pairs;
-    while i < p.left.rows {
+    for i in 0..p.left.rows {
         n = pair_rest(work, p, blocks, i, n);
-        i += 1;
     }
     n
 }
@@ -108,11 +104,9 @@ fn pair_all(work: &mut [u64], p: Sides) -> usize
     requires { Placed p work.old }
     ensures { PairedTo p (turns_to (shared_by p (words_of work.old)) p.left.rows p.right.rows 17) 0 result work.old work.new }
 {
-    let mut k: u64 = 0;
     let mut n: usize = 0;
-    while k < 17 {
+    for k in 0..17 {
         n = pair_rows(work, p, 16 - k, n);
-        k += 1;
     }
     n
 }

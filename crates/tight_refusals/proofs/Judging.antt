@@ -1,4 +1,5 @@
 -- The verdict is made of document 01's, and of the rooms: its call has the same reasons before the rooms, where it is handed a limit that it refuses just where the two limits are refused.
+use Rattle.std.specs.Prelude.{Err, Ok}
 use mathlib.Core.Path.{◌≡◌, refl, sym, ap, ◌∙◌}
 use mathlib.Core.Bool.{Bool, true, false, cond, ◌||◌}
 use mathlib.Core.List.{List, [], ◌∷◌, ◌++◌}
@@ -10,7 +11,6 @@ use Rattle.basics.proofs.Bools.{not_left, not_right}
 use Rattle.rules.specs.declared.Cache.{Cache}
 use Rattle.rules.specs.declared.Refusal.{Refusal}
 use Rattle.rules.specs.declared.Refusal.TheVariants.{Limit, Room}
-use Rattle.rules.specs.declared.Verdict.TheVariants.{Accepted, Refused}
 use Rattle.rules.specs.Answers.{Reason, when, first, verdict_says}
 use Rattle.rules.specs.Input.{input_in}
 use Rattle.rules.specs.Refusals as Rules
@@ -38,27 +38,27 @@ judged c K W ts ns bs es limit e = rw e (go (bad_limits K W))
 -- ---- the rooms come last
 
 -- where none of the reasons rs applies, the first of those behind them
-first_behind : (rs qs : List Reason) → Accepted ≡ first rs → first (rs ++ qs) ≡ first qs
+first_behind : (rs qs : List Reason) → Ok tt ≡ first rs → first (rs ++ qs) ≡ first qs
 first_behind [] qs h = refl
 first_behind (r ∷ rs) qs h = go r.applies h (first_behind rs qs)
   where
-    go : (b : Bool) → Accepted ≡ cond b (Refused r.gives) (first rs) → (Accepted ≡ first rs → first (rs ++ qs) ≡ first qs)
-        → cond b (Refused r.gives) (first (rs ++ qs)) ≡ first qs
+    go : (b : Bool) → Ok tt ≡ cond b (Err r.gives) (first rs) → (Ok tt ≡ first rs → first (rs ++ qs) ≡ first qs)
+        → cond b (Err r.gives) (first (rs ++ qs)) ≡ first qs
     go true h rest = absurd (let z : ◌≡◌ {A = ℕ} 0 1 = cc in omega arith)
     go false h rest = rest h
 
 -- and where one does, those behind them do not matter
-first_before : (rs qs : List Reason) (x : Refusal) → Refused x ≡ first rs → first (rs ++ qs) ≡ Refused x
+first_before : (rs qs : List Reason) (x : Refusal) → Err x ≡ first rs → first (rs ++ qs) ≡ Err x
 first_before [] qs x h = absurd (let z : ◌≡◌ {A = ℕ} 0 1 = cc in omega arith)
 first_before (r ∷ rs) qs x h = go r.applies h (first_before rs qs x)
   where
-    go : (b : Bool) → Refused x ≡ cond b (Refused r.gives) (first rs) → (Refused x ≡ first rs → first (rs ++ qs) ≡ Refused x)
-        → cond b (Refused r.gives) (first (rs ++ qs)) ≡ Refused x
+    go : (b : Bool) → Err x ≡ cond b (Err r.gives) (first rs) → (Err x ≡ first rs → first (rs ++ qs) ≡ Err x)
+        → cond b (Err r.gives) (first (rs ++ qs)) ≡ Err x
     go true h rest = sym h
     go false h rest = rest h
 
 module _ (a : Asked) where
-  pub refused_before : (x : Refusal) → Refused x ≡ first (before_rooms a) → Refused x ≡ verdict a
+  pub refused_before : (x : Refusal) → Err x ≡ first (before_rooms a) → Err x ≡ verdict a
   unfolding verdict reasons
   refused_before x h = sym (first_before (before_rooms a) (rooms_reason a ∷ []) x h)
 
@@ -68,7 +68,7 @@ module _ (a : Asked) where
     pub contents : a.contents ≤ 4096
     pub cells : a.cells ≤ 4098
 
-  module _ (h : Accepted ≡ first (before_rooms a)) where
+  module _ (h : Ok tt ≡ first (before_rooms a)) where
     pub few : Few
     unfolding before_rooms Rules.reasons
     few =
@@ -80,20 +80,20 @@ module _ (a : Asked) where
         }
 
     -- the result room is too short
-    pub short_result : a.result_room ≤ length a.accesses → Refused Room ≡ verdict a
+    pub short_result : a.result_room ≤ length a.accesses → Err Room ≡ verdict a
     unfolding verdict reasons
     short_result l = sym (first_behind (before_rooms a) (rooms_reason a ∷ []) h ∙ rw (lt-ltb a.result_room (length a.accesses + 1) (omega arith)) refl)
 
     module _ (long : length a.accesses < a.result_room) (n : ℕ) (e : n ≡ room_needed a) where
       -- the working room is
-      pub short_working : a.working_room < n → Refused Room ≡ verdict a
+      pub short_working : a.working_room < n → Err Room ≡ verdict a
       unfolding verdict reasons
       short_working l =
           sym (first_behind (before_rooms a) (rooms_reason a ∷ []) h
           ∙ rw (le-ltb a.result_room (length a.accesses + 1) (omega arith), ← e, lt-ltb a.working_room n l) refl)
 
       -- neither is
-      pub long_enough_lem : n ≤ a.working_room → Accepted ≡ verdict a
+      pub long_enough_lem : n ≤ a.working_room → Ok tt ≡ verdict a
       unfolding verdict reasons
       long_enough_lem l =
           sym (first_behind (before_rooms a) (rooms_reason a ∷ []) h
@@ -104,6 +104,6 @@ module _ (a : Asked) where
     unfolding room_answer
     needed n e = rw (← h) e
 
-  pub none_needed : (x : Refusal) → Refused x ≡ first (before_rooms a) → 0 ≡ room_answer a
+  pub none_needed : (x : Refusal) → Err x ≡ first (before_rooms a) → 0 ≡ room_answer a
   unfolding room_answer
   none_needed x h = rw (← h)

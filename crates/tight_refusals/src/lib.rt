@@ -9,7 +9,7 @@ ghost use Rattle.tight_rules.specs.Refusals.{before_rooms, verdict, room_answer}
 
 use crate::rooms::words_needed;
 use refusals::judge;
-use rules::{Cache, Refusal, Verdict};
+use rules::{Cache, Refusal};
 
 mod rooms;
 
@@ -41,7 +41,7 @@ fn judge_graph(
     runs: &[u32],
     accesses: &[u32],
     edges: &[u32],
-) -> Verdict
+) -> Result<(), Refusal>
     ensures { result ≡ first (before_rooms (asked_in cache contents cells tracked.now runs.now accesses.now edges.now 0 0)) }
 {
     let limit = limit_for(contents, cells);
@@ -61,8 +61,8 @@ pub fn room_needed(
     ensures { result ≡ room_answer (asked_in cache contents cells tracked.now runs.now accesses.now edges.now 0 0) }
 {
     match judge_graph(cache, contents, cells, tracked, runs, accesses, edges) {
-        Verdict::Refused(_) => 0,
-        Verdict::Accepted => words_needed(
+        Err(_) => 0,
+        Ok(()) => words_needed(
             contents as u64,
             cells as u64,
             tracked,
@@ -84,28 +84,24 @@ pub fn judge_tight(
     edges: &[u32],
     result_room: usize,
     working_room: usize,
-) -> Verdict
+) -> Result<(), Refusal>
     ensures { result ≡ verdict (asked_in cache contents cells tracked.now runs.now accesses.now edges.now result_room working_room) }
 {
-    match judge_graph(cache, contents, cells, tracked, runs, accesses, edges) {
-        Verdict::Refused(reason) => Verdict::Refused(reason),
-        Verdict::Accepted => {
-            if result_room <= accesses.len() {
-                return Verdict::Refused(Refusal::Room);
-            }
-            if (working_room as u64)
-                < words_needed(
-                    contents as u64,
-                    cells as u64,
-                    tracked,
-                    runs,
-                    accesses,
-                    edges,
-                )
-            {
-                return Verdict::Refused(Refusal::Room);
-            }
-            Verdict::Accepted
-        }
+    judge_graph(cache, contents, cells, tracked, runs, accesses, edges)?;
+    if result_room <= accesses.len() {
+        return Err(Refusal::Room);
     }
+    if (working_room as u64)
+        < words_needed(
+            contents as u64,
+            cells as u64,
+            tracked,
+            runs,
+            accesses,
+            edges,
+        )
+    {
+        return Err(Refusal::Room);
+    }
+    Ok(())
 }

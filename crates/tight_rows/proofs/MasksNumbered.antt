@@ -1,15 +1,14 @@
 -- Masks that get their numbers one after the other, and rows where they have units. What one mask writes is its own number and its own row, so that those before it stay as they
 -- are; the units, and where they go on to, are none of the words written. And what follows: rows rise by mask, every mask has the number of a row, and a mask that goes on has
 -- that of its end.
-use Rattle.std.proofs.Common.{◌≡◌, ℕ, zero, suc, ◌+◌, ◌*◌, ◌<◌, ◌≤◌, Bool, true, false, cond, ◌&&◌, eqb, ltb, leb, ◌≢◌, ◌⊎◌, List, length, get_or, set, sym, refl, ap, ◌∙◌, subst, ap₂, inl, inr, ⊎_elim, le_refl, pos_of_ne-zero, mul-le-mul_left, add-one, arith, length-set, get_or-set_other, get_or-set_same, ltb-false, ltb-true, le-ltb, lt-ltb, eq-eqb, ne_eqb, eqb-true, le-leb, leb-true}
+use Rattle.std.proofs.Common.{◌≡◌, ℕ, zero, suc, ◌+◌, ◌*◌, ◌<◌, ◌≤◌, Bool, true, false, cond, eqb, ltb, ◌≢◌, ◌⊎◌, List, length, get_or, set, sym, refl, ap, ◌∙◌, subst, inl, inr, ⊎_elim, le_refl, pos_of_ne-zero, mul-le-mul_left, add-one, arith, length-set, get_or-set_other, get_or-set_same, ltb-false, ltb-true, le-ltb, lt-ltb, eq-eqb, ne_eqb, eqb-true}
 use native.Mathlib.Decide.{ℕ_discrete}
 use borrow.Author.Tests.{eqb-false}
-use Rattle.basics.proofs.Bools.{and_left, and_right, three}
 use Rattle.plan.specs.Plan.{onward}
 use Rattle.tight_rows.specs.declared.Opening.{Opening}
-use Rattle.tight_rows.specs.Room.{Words, words_of, Leaves, mask_at, units_at, cell_at, slot_words}
+use Rattle.tight_rows.specs.Room.{words_of, Leaves, mask_at, units_at, cell_at}
 use Rattle.tight_rows.specs.Rows.{replaced}
-use Rattle.tight_rows.specs.Numbers.{sum_in, goes_in, number_in, some, rank_of, Placed, is_placed, row_put, number_on, MaskOpened, Numbered, NumberedTo, Opened}
+use Rattle.tight_rows.specs.Numbers.{sum_in, goes_in, number_in, some, rank_of, Placed, row_put, number_on, MaskOpened, Numbered, NumberedTo, Opened}
 use Rattle.tight_rows.proofs.Writing.{is_within_lem, not_within, row_before}
 use Rattle.tight_rows.proofs.Adding.{sum_part}
 
@@ -21,9 +20,6 @@ module _ (u : ℕ → ℕ) where
 
   pub one_more_lem : (m : ℕ) → 1 ≤ u m → rank_of u (m + 1) ≡ rank_of u m + 1
   one_more_lem m l = rw (add-one m, ne_eqb (u m) 0 (λ p. absurd (omega arith))) refl
-
-  pub rank_next : (m r s : ℕ) → r ≡ rank_of u m → s ≡ some (u m) → r + s ≡ rank_of u (m + 1)
-  rank_next m r s e f = rw (add-one m) (ap₂ ◌+◌ e f)
 
   -- no more than there are masks
   pub rank_most : (m : ℕ) → rank_of u m ≤ m
@@ -51,51 +47,6 @@ module _ (u : ℕ → ℕ) where
           let here : 1 ≤ u m = pos_of_ne-zero (eqb-false (u m) 0 e) in
           (m, omega arith, here, omega (arith, ltb-false k (rank_of u m) h, one_more_lem m here, ap (rank_of u) (add-one m)))
 
--- ---- all in its place
-
-module _ (o : Opening) (xs : List ℕ) where
-  pub placed_told : is_placed o (length xs) ≡ true → Placed o xs
-  placed_told e =
-      let slot = leb (o.slot + slot_words o.contents o.cells) o.plan in
-      let sums = leb (o.plan + o.masks) o.goes in
-      let goes = leb (o.goes + o.masks) o.numbers in
-      let end = leb (o.numbers + o.masks) (length xs) in
-      let (p, q, r) = three (slot && sums) goes end e in
-      record {
-        slot = leb-true (o.slot + slot_words o.contents o.cells) o.plan (and_left slot sums p);
-        sums = leb-true (o.plan + o.masks) o.goes (and_right slot sums p);
-        goes = leb-true (o.goes + o.masks) o.numbers q;
-        end = leb-true (o.numbers + o.masks) (length xs) r;
-      }
-
-  pub placed_tells : Placed o xs → is_placed o (length xs) ≡ true
-  placed_tells h =
-      rw (
-        le-leb (o.slot + slot_words o.contents o.cells) o.plan h.slot,
-        le-leb (o.plan + o.masks) o.goes h.sums,
-        le-leb (o.goes + o.masks) o.numbers h.goes,
-        le-leb (o.numbers + o.masks) (length xs) h.end,
-      ) refl
-
--- ---- one mask
-
-pub number_smaller : (o : Opening) (w : Words) (C : ℕ) → goes_in o w C < C → number_in o w (goes_in o w C) ≡ number_on o w C
-number_smaller o w C l = rw (lt-ltb (goes_in o w C) C l) refl
-
-pub number_nowhere : (o : Opening) (w : Words) (C : ℕ) → C ≤ goes_in o w C → 0 ≡ number_on o w C
-number_nowhere o w C l = rw (le-ltb (goes_in o w C) C l) refl
-
-module _ (o : Opening) (C k : ℕ) (xs : List ℕ) where
-  pub opened_none : (ys : List ℕ) (v : ℕ) → sum_in o (words_of xs) C ≡ 0 → v ≡ number_on o (words_of xs) C → ys ≡ set xs (o.numbers + C) v → MaskOpened o C k xs ys k
-  opened_none ys v z e q = record { none = λ y. (refl, q ∙ ap (set xs (o.numbers + C)) e); some = λ l. absurd (omega arith) }
-
-  pub opened_some : (ys : List ℕ) → sum_in o (words_of xs) C ≢ 0 → ys ≡ row_put o C (sum_in o (words_of xs) C) k xs → MaskOpened o C k xs ys (k + 1)
-  opened_some ys n q = record { none = λ z. absurd (n z); some = λ l. (refl, q) }
-
-  -- there is a row left for it
-  pub row_left : sum_in o (words_of xs) C ≢ 0 → k + some (sum_in o (words_of xs) C) ≤ o.contents → k < o.contents
-  row_left n l = let e : some (sum_in o (words_of xs) C) ≡ 1 = rw (ne_eqb (sum_in o (words_of xs) C) 0 n) refl in omega arith
-
 -- ---- mask after mask
 
 module _ (o : Opening) (xs : List ℕ) (ok : Placed o xs) (few : rank_of (sum_in o (words_of xs)) o.masks ≤ o.contents) where
@@ -104,21 +55,6 @@ module _ (o : Opening) (xs : List ℕ) (ok : Placed o xs) (few : rank_of (sum_in
 
   abbrev goes : ℕ → ℕ
   goes = goes_in o (words_of xs)
-
-  pub numbered_start : NumberedTo o 0 0 xs xs
-  numbered_start =
-      record {
-        numbered = record {
-          long = refl;
-          count = refl;
-          own = λ C l. absurd (omega arith);
-          on = λ C l. absurd (omega arith);
-          nowhere = λ C l. absurd (omega arith);
-          mask = λ C l. absurd (omega arith);
-          units = λ C l. absurd (omega arith);
-        };
-        beside = λ i l b. refl;
-      }
 
   module _ (m r : ℕ) (ys : List ℕ) (l : m < o.masks) (so : NumberedTo o m r xs ys) where
     rows_few : r + some (sum m) ≤ o.contents
@@ -283,9 +219,6 @@ module _ (o : Opening) (xs : List ℕ) (ok : Placed o xs) (few : rank_of (sum_in
             let s : 1 ≤ sum m = pos_of_ne-zero (eqb-false (sum m) 0 e) in
             let (p, q) = new.some (rw (same_sum m l) s) in
             rw p (next_some s zs q)
-
-  pub all_numbered : (m r : ℕ) (ys : List ℕ) → m ≡ o.masks → NumberedTo o m r xs ys → NumberedTo o o.masks r xs ys
-  all_numbered m r ys e so = subst (λ (n : ℕ). NumberedTo o n r xs ys) e so
 
   -- ---- the cells
 

@@ -7,10 +7,6 @@ use Rattle.tight_rows.specs.Room.{Where, slot_words}
 pub alike : (a b c d : ℕ) → (a ≤ b → c ≤ d) → (c ≤ d → a ≤ b) → leb a b ≡ leb c d
 alike a b c d f g = same_test (leb a b) (leb c d) (λ e. le-leb c d (f (leb-true a b e))) (λ e. le-leb a b (g (leb-true c d e)))
 
--- n words from place a on
-pub ends_there : (a n end : ℕ) → n ≤ end → leb a (end - n) ≡ leb (a + n) end
-ends_there a n end l = alike a (end - n) (a + n) end (λ h. omega arith) (λ h. omega arith)
-
 -- a slot of K contents and W cells to a row, from place a on
 pub slot_there : (K W a end : ℕ) → a ≤ end → leb (K + 2) ((end - a) / (W + 2)) ≡ leb (a + slot_words K W) end
 slot_there K W a end l =

@@ -1,7 +1,6 @@
 -- Words that there are, and sums of them: words past the end are 0, so that a sum over those that there are is the whole sum; and a sum modulo 2^64 is the sum where this is a
 -- word.
 use Rattle.std.proofs.Common.{◌≡◌, ℕ, zero, suc, ◌+◌, ◌%◌, ◌^◌, ◌<◌, ◌≤◌, ◌⊎◌, List, [], ◌∷◌, length, set, refl, ap, ◌∙◌, inl, inr, le_of_suc-le-suc, not-suc-le-zero, mod-eq_of_lt, eq-or-lt_of_le, arith}
-use native.Mathlib.Nat.{mod-add-mod}
 use Rattle.basics.proofs.Sums.{sum_to}
 use Rattle.tight_rows.specs.Room.{words_of}
 use Rattle.tight_rows.specs.Rows.{There, More}
@@ -30,13 +29,6 @@ module _ (a : ℕ) (xs : List ℕ) where
       go : (j ≡ n) ⊎ (j < n) → sum_to j (λ i. words_of xs (a + i)) ≡ sum_to n (λ i. words_of xs (a + i))
       go (inl e) = ap (λ (k : ℕ). sum_to k (λ i. words_of xs (a + i))) e
       go (inr s) = none_more j n (omega (arith, h.full s)) h.most
-
--- one term more
-pub wrapped_next : (f : ℕ → ℕ) (j sum : ℕ) → sum ≡ sum_to j f % 2 ^ 64 → (sum + f j) % 2 ^ 64 ≡ sum_to (j + 1) f % 2 ^ 64
-wrapped_next f j sum e =
-    ap (λ (s : ℕ). (s + f j) % 2 ^ 64) e
-    ∙ mod-add-mod (sum_to j f) (2 ^ 64) (f j)
-    ∙ ap (λ (k : ℕ). sum_to k f % 2 ^ 64) (let z : suc j ≡ j + 1 = omega arith in z)
 
 -- where the sum is a word
 pub plain : (r s : ℕ) → r ≡ s % 2 ^ 64 → s < 2 ^ 64 → r ≡ s

@@ -1,6 +1,8 @@
 -- Words written one after the other from some place on: what is there after j of them, what is read meanwhile, and one more.
-use Rattle.std.proofs.Common.{◌≡◌, ℕ, ◌+◌, ◌-◌, ◌*◌, ◌<◌, ◌≤◌, Bool, true, false, cond, ◌&&◌, ltb, leb, ◌≢◌, ◌⊎◌, List, length, set, sym, refl, ap, ◌∙◌, inl, inr, ⊎_elim, eq-or-lt_of_le, mul-le-mul_left, arith, length-set, get_or-set_other, get_or-set_same, ltb-false, ltb-true, le-ltb, lt-ltb, le-leb, leb-false, leb-true}
+use Rattle.std.proofs.Common.{◌≡◌, ℕ, ◌+◌, ◌-◌, ◌*◌, ◌<◌, ◌≤◌, Bool, true, false, cond, ◌&&◌, ltb, leb, ◌≢◌, ◌⊎◌, List, length, set, replicate, sym, refl, ap, ◌∙◌, inl, inr, ⊎_elim, eq-or-lt_of_le, mul-le-mul_left, arith, length-set, get_or-set_other, get_or-set_same, ltb-false, ltb-true, le-ltb, lt-ltb, le-leb, leb-false, leb-true}
 use native.Mathlib.Decide.{ℕ_discrete}
+use borrow.Rule.Slice.PartMut.{put_mid}
+use Rattle.std.proofs.lemmas.Grind.{common_steps}
 use borrow.Author.Tests.{lt-leb}
 use Rattle.basics.proofs.Bools.{both}
 use Rattle.tight_rows.specs.Room.{Words, words_of, Leaves}
@@ -84,19 +86,35 @@ module _ (a : ℕ) (v : Words → ℕ → ℕ) where
   pub all_written : (j n : ℕ) (xs ys : List ℕ) → j ≡ n → Written j xs ys → Written n xs ys
   all_written j n xs ys e h = rw (← e) h
 
-  -- where those that are not written are past the end
-  pub as_far : (j n : ℕ) (xs ys : List ℕ) → There a n (length xs) j → Written j xs ys → Written n xs ys
-  as_far j n xs ys h k =
-      record { long = k.long; word = λ i l. k.word i l ∙ ap (λ (b : Bool). cond b (v (words_of xs) (i - a)) (words_of xs i)) (same i l) }
-    where
-      past : (i : ℕ) → i < length xs → a + j ≤ i → (j ≡ n) ⊎ (j < n) → within a n i ≡ false
-      past i l m (inl e) = not_within a n i (inr (omega arith))
-      past i l m (inr s) = absurd (omega (arith, h.full s))
+-- ---- a part filled
 
-      same : (i : ℕ) → i < length xs → within a j i ≡ within a n i
+-- the n words from place a on all are x: what a write to that part leaves (k is the part's length)
+module _ (a n k x : ℕ) (xs ys : List ℕ) (e : k ≡ n) (f : ys ≡ replicate n x) (room : a + n ≤ length xs) where
+  filled_in : (i : ℕ) → a ≤ i → i < a + n → words_of (put_mid a k xs ys) i ≡ x
+  filled_in i p q = rw (e, f) (grind (arith, common_steps))
+
+  filled_below : (i : ℕ) → i < a → words_of (put_mid a k xs ys) i ≡ words_of xs i
+  filled_below i p = rw (e, f) (grind (arith, common_steps))
+
+  filled_above : (i : ℕ) → a + n ≤ i → words_of (put_mid a k xs ys) i ≡ words_of xs i
+  filled_above i p = rw (e, f) (grind (arith, common_steps))
+
+  pub filled_word : (i : ℕ) → words_of (put_mid a k xs ys) i ≡ replaced a n (λ j. x) (words_of xs) i
+  filled_word i =
+      within_cases a n i (λ b. words_of (put_mid a k xs ys) i ≡ cond b x (words_of xs i)) (filled_in i) (λ o. ⊎_elim (filled_below i) (filled_above i) o)
+
+  -- where those that are not written are past the end
+  pub row_filled : (w : ℕ) → There a w (length xs) n → length (put_mid a k xs ys) ≡ length xs → Leaves (λ v. replaced a w (λ j. x) v) xs (put_mid a k xs ys)
+  row_filled w t long = record { long = long; word = λ i l. filled_word i ∙ ap (λ (b : Bool). cond b x (words_of xs i)) (same i l) }
+    where
+      past : (i : ℕ) → i < length xs → a + n ≤ i → (n ≡ w) ⊎ (n < w) → within a w i ≡ false
+      past i l m (inl d) = not_within a w i (inr (omega arith))
+      past i l m (inr s) = absurd (omega (arith, t.full s))
+
+      same : (i : ℕ) → i < length xs → within a n i ≡ within a w i
       same i l =
-          within_cases a j i (λ b. b ≡ within a n i) (λ p q. sym (is_within_lem a n i p (omega (arith, h.most))))
-          (λ o. sym (⊎_elim (λ p. not_within a n i (inl p)) (λ p. past i l p (eq-or-lt_of_le h.most)) o))
+          within_cases a n i (λ b. b ≡ within a w i) (λ p q. sym (is_within_lem a w i p (omega (arith, t.most))))
+          (λ o. sym (⊎_elim (λ p. not_within a w i (inl p)) (λ p. past i l p (eq-or-lt_of_le t.most)) o))
 
 -- ---- four words
 

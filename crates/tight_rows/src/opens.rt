@@ -42,31 +42,21 @@ fn open_mask(work: &mut [u64], o: Opening, mask: usize, row: usize) -> usize
     row + 1
 }
 
-// 1 if there are units, otherwise 0.
-fn one_if(units: u64) -> usize
-    ensures { result ≡ some units }
-{
-    if 0 < units {
-        return 1;
-    }
-    0
-}
-
 // How many masks have units.
+#[tactic(auto, using(crate::proofs::MasksNumbered::rank_most))]
 fn count_rows(work: &[u64], o: Opening) -> usize
     requires { Placed o work.now }
     ensures { result ≡ rank_of (sum_in o (words_of work.now)) o.masks }
 {
     let mut rows: usize = 0;
-    let mut mask: usize = 0;
-    while mask < o.masks {
-        rows += one_if(work[o.plan + mask]);
-        mask += 1;
+    for mask in 0..o.masks {
+        rows += usize::from(0 < work[o.plan + mask]);
     }
     rows
 }
 
 // Whether the slot ends at place `end` or before.
+#[tactic(auto, using(crate::proofs::Tests::slot_there))]
 fn slot_ends_by(slot: usize, contents: usize, cells: usize, end: usize) -> bool
     ensures { result ≡ nat_le (slot + slot_words contents cells) end }
 {
@@ -102,15 +92,14 @@ fn is_placed(o: Opening, all: usize) -> bool
 }
 
 // All masks have their numbers, and those with units their rows. Yields how many rows there are.
+#[tactic(auto, using(crate::proofs::MasksNumbered::may_open))]
 fn number_masks(work: &mut [u64], o: Opening) -> usize
     requires { Placed o work.old × (rank_of (sum_in o (words_of work.old)) o.masks ≤ o.contents) }
     ensures { NumberedTo o o.masks result work.old work.new }
 {
-    let mut mask: usize = 0;
     let mut row: usize = 0;
-    while mask < o.masks {
+    for mask in 0..o.masks {
         row = open_mask(work, o, mask, row);
-        mask += 1;
     }
     row
 }

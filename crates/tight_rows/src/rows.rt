@@ -1,5 +1,5 @@
-// Rows of words: filled, cleared and added up; a word that has more; and numbers.
-ghost use Rattle.std.specs.Prelude.{◌≡◌, ◌+◌, ◌-◌, ◌%◌, ◌^◌, ◌<◌, ◌≤◌, min, max, nat_le};
+// Rows of words: filled, cleared and added up; and a word that has more.
+ghost use Rattle.std.specs.Prelude.{◌≡◌, ◌+◌, ◌-◌, ◌%◌, ◌^◌, ◌<◌, ◌≤◌, nat_le};
 ghost use Rattle.basics.proofs.Sums.{sum_to};
 ghost use Rattle.tight_rows.specs.Room.{words_of, Leaves};
 ghost use Rattle.tight_rows.specs.Grid.{filled_words};
@@ -7,36 +7,6 @@ ghost use Rattle.tight_rows.specs.Rows.{replaced, There, More};
 
 use rules::Filled;
 use std::num::wrapping_add_u64;
-
-// What is left of `a` when `b` are taken: nothing where these are more.
-pub fn less(a: u64, b: u64) -> u64
-    ensures { result ≡ a - b }
-{
-    if a < b {
-        return 0;
-    }
-    a - b
-}
-
-// The smaller of two.
-pub fn smaller(a: u64, b: u64) -> u64
-    ensures { result ≡ min a b }
-{
-    if a < b {
-        return a;
-    }
-    b
-}
-
-// The larger of two.
-pub fn larger(a: u64, b: u64) -> u64
-    ensures { result ≡ max a b }
-{
-    if a < b {
-        return b;
-    }
-    a
-}
 
 // Whether `n` words from place `at` on end at place `end` or before.
 pub fn ends_by(at: usize, n: usize, end: usize) -> bool
@@ -66,10 +36,8 @@ pub fn fill_row(work: &mut [u64], at: usize, width: usize, word: u64)
     ensures { Leaves (λ w. replaced at width (λ j. word) w) work.old work.new }
 {
     let n = there(at, width, work.len());
-    let mut j: usize = 0;
-    while j < n {
-        work[at + j] = word;
-        j += 1;
+    if 0 < n {
+        work[at..at + n].fill(word);
     }
 }
 
@@ -86,10 +54,8 @@ pub fn sum_of(work: &[u64], from: usize, n: usize) -> u64
 {
     let m = there(from, n, work.len());
     let mut sum: u64 = 0;
-    let mut j: usize = 0;
-    while j < m {
+    for j in 0..m {
         sum = wrapping_add_u64(sum, work[from + j]);
-        j += 1;
     }
     sum
 }

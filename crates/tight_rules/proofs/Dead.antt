@@ -1,6 +1,7 @@
 -- Dead blocks: what is not accessed ahead does not matter to the value along the accesses ahead. A hit is a hit with it and without it. At a miss the way that holds it
 -- is one way among the others: drawn, it leaves what an empty way would have left; not drawn, it leaves two contents that again differ in dead blocks only.
 -- That a dead block taken away loses no value is so of any block (Rises); here, that it adds none.
+use Rattle.std.specs.Prelude.{None, Some}
 use mathlib.Core.Path.{◌≡◌, refl, sym, ap, ◌∙◌}
 use mathlib.Core.Logic.{◌⊎◌, inl, inr}
 use mathlib.Core.Bool.{Bool, true, false, cond, true≢false}
@@ -8,11 +9,9 @@ use mathlib.Core.List.{List}
 use Prim.Native.Nat.{ℕ, suc, ◌*◌, ◌≤◌, ◌<◌}
 use native.Mathlib.Nat.{le_refl, le_trans, mul-le-mul_left, lt_of_le_of_lt}
 use native.Mathlib.Omega.{arith}
-use Rattle.rules.specs.declared.Place.{Place}
-use Rattle.rules.specs.declared.Place.TheVariants.{At as at, Untracked as untracked}
 use Rattle.rules.specs.declared.Target.{Target}
 use Rattle.rules.specs.declared.Filled.{Filled}
-use Rattle.rules.specs.Contents.{places, bit, has, hits, with, without, shared, size, of_set}
+use Rattle.rules.specs.Contents.{places, bit, has, hits, with, without, shared, size, of_set, Place}
 use Rattle.rules.specs.Filling.{fill_one}
 use Rattle.rules.specs.Step.{at_risk}
 use Rattle.rules.specs.Shape.{Aimed, Room}
@@ -51,14 +50,14 @@ module _ (N C A D B : ℕ) (g : ℕ → ℕ) (s : Sub B A) (small : size A ≤ N
       go i true p q = p refl
       go i false p q = q refl
 
-module _ (N Z : ℕ) (ts : List ℕ) (few : N ≤ 16) (x : Target) (aim : Aimed Z ts x) (L : ℕ) (live : (i : ℕ) → x.place ≡ at i → bit L i ≡ true) where
+module _ (N Z : ℕ) (ts : List ℕ) (few : N ≤ 16) (x : Target) (aim : Aimed Z ts x) (L : ℕ) (live : (i : ℕ) → x.place ≡ Some i → bit L i ≡ true) where
   -- a hit is a hit with the dead blocks and without
   hits_same : (C : ℕ) → hits x (shared C L) ≡ hits x C
   hits_same C = go x.place live
     where
-      go : (y : Place) → ((i : ℕ) → y ≡ at i → bit L i ≡ true) → has (shared C L) x.again y ≡ has C x.again y
-      go untracked l = refl
-      go (at i) l = pick (bit C i) (bit (shared C L) i) refl refl
+      go : (y : Place) → ((i : ℕ) → y ≡ Some i → bit L i ≡ true) → has (shared C L) x.again y ≡ has C x.again y
+      go None l = refl
+      go (Some i) l = pick (bit C i) (bit (shared C L) i) refl refl
         where
           pick : (a b : Bool) → bit C i ≡ a → bit (shared C L) i ≡ b → b ≡ a
           pick true true p q = refl
@@ -104,7 +103,7 @@ module _ (N Z : ℕ) (ts : List ℕ) (few : N ≤ 16) (x : Target) (aim : Aimed 
           held : Sub (shared (with G y) L) (with E y)
           held i h = pick (with_cases G y i (sub_shared_left (with G y) L i h))
             where
-              pick : (bit G i ≡ true) ⊎ (y ≡ at i) → bit (with E y) i ≡ true
+              pick : (bit G i ≡ true) ⊎ (y ≡ Some i) → bit (with E y) i ≡ true
               pick (inl q) = with_keeps E y i (s i q (sub_shared_right (with G y) L i h))
               pick (inr q) = rw q (with_new E i)
 

@@ -1,5 +1,6 @@
 -- A reduction ends with at most K contents. At level 49 every contents is light, so the walk down empties each that has a place to lose, as long as more than K remain; what it
 -- empties goes further down. Where it comes to the end, no contents have a place to lose but that of the block held back, which all of them hold: they are one.
+use Rattle.std.specs.Prelude.{None, Some}
 use mathlib.Core.Path.{◌≡◌, refl, sym, ap, ◌∙◌}
 use mathlib.Core.Logic.{◌≢◌, ◌⊎◌, inl, inr, ⊎_elim}
 use mathlib.Core.Bool.{Bool, true, false, cond, ◌&&◌, not, true≢false}
@@ -13,11 +14,9 @@ use lib.Pow.{pow_pos}
 use borrow.Author.Tests.{eqb-true, eqb-false, eq-eqb, ltb-false, lt-ltb}
 use Rattle.basics.proofs.Bools.{and_left, three, same_test}
 use Rattle.basics.proofs.Sums.{part_most}
-use Rattle.rules.specs.declared.Place.{Place}
-use Rattle.rules.specs.declared.Place.TheVariants.{At as at, Untracked as untracked}
 use Rattle.rules.specs.declared.State.{State}
 use Rattle.rules.specs.AnyTable.{total as total_of}
-use Rattle.rules.specs.Contents.{places, among, bit, without}
+use Rattle.rules.specs.Contents.{places, among, bit, without, Place}
 use Rattle.rules.specs.Table.{units_of, total, Work}
 use Rattle.rules.specs.Shape.{Every, Shaped}
 use Rattle.rules.proofs.Bits.{bit_low, bit_rest, bit_zero, bits_same}
@@ -219,11 +218,11 @@ module _ (N Z : ℕ) (ts : List ℕ) (M K : ℕ) (y : Place) (lost : ℕ) where
   record Alone (C : ℕ) : Type 0 where
     masked : C < 2 ^ length ts
     only : (i : ℕ) → i < places → bit C i ≡ true → is_at y i ≡ true
-    held : (i : ℕ) → y ≡ at i → bit C i ≡ true
+    held : (i : ℕ) → y ≡ Some i → bit C i ≡ true
 
-  is_at_lem : (y : Place) (i : ℕ) → is_at y i ≡ true → y ≡ at i
-  is_at_lem (at j) i e = ap at (eqb-true j i e)
-  is_at_lem untracked i e = absurd (true≢false (sym e))
+  is_at_lem : (y : Place) (i : ℕ) → is_at y i ≡ true → y ≡ Some i
+  is_at_lem (Some j) i e = ap Some (eqb-true j i e)
+  is_at_lem None i e = absurd (true≢false (sym e))
 
   alone_same : length ts ≤ places → (C D : ℕ) → Alone C → Alone D → C ≡ D
   alone_same few C D c d =
@@ -241,7 +240,7 @@ module _ (N Z : ℕ) (ts : List ℕ) (M K : ℕ) (y : Place) (lost : ℕ) where
 
   -- the block at y is held
   abbrev pub Holds : ℕ → Type 0
-  Holds C = (i : ℕ) → y ≡ at i → bit C i ≡ true
+  Holds C = (i : ℕ) → y ≡ Some i → bit C i ≡ true
 
   holds_on : (C D : ℕ) (w : Work) → Part y D C → Every (λ s. Holds s.mask) w.table → Every (λ s. Holds s.mask) (moved (relabel C D) w).table
   unfolding moved

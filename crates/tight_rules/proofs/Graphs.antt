@@ -1,5 +1,6 @@
 -- A graph, along a path: each node's table is worth no less than its predecessors' are along its run, whichever edges the path takes, nor where less is known of the last
 -- block. A table's misses are at most the accesses of the longest path to its node.
+use Rattle.std.specs.Prelude.{None}
 use mathlib.Core.Path.{◌≡◌, refl, sym, ap, ◌∙◌}
 use mathlib.Core.Logic.{◌⊎◌, inl, inr}
 use mathlib.Core.Bool.{true, true≢false}
@@ -10,12 +11,10 @@ use native.Mathlib.Omega.{arith}
 use lib.ListN.{length, get_or, length-append, get_or-append}
 use lib.Seq.{get_or_at}
 use lib.Pow.{pow-add}
-use Rattle.rules.specs.declared.Last.{Last}
-use Rattle.rules.specs.declared.Last.TheVariants.{Unknown as unknown}
 use Rattle.rules.specs.declared.Filled.{Filled}
 use Rattle.rules.specs.Units.{whole}
 use Rattle.rules.specs.AnyTable.{total as total_of}
-use Rattle.rules.specs.Contents.{among, last_after}
+use Rattle.rules.specs.Contents.{among, last_after, Last}
 use Rattle.rules.specs.Filling.{filled_at, at_start}
 use Rattle.rules.specs.Input.{Input, nodes, run_of, edges_of, predecessors}
 use Rattle.rules.specs.Lasts.{last_before, node_last, lasts_to}
@@ -208,13 +207,13 @@ module _ (a : Asked) (ok : Checked (graph_of a)) where
 
   -- the accesses p lead from the start to r, and o is known of the last of them
   record Covers (p : List ℕ) (r : Rows) (o : Last) : Type 0 where
-    stands : (f : Weight) (B : ℕ) → Good N Z ts f B → whole * ahead unknown p f 0 0 (at_start i) ≤ N ^ length p * worth_of_all f B r
-    last : Vaguer o (last_after unknown p)
+    stands : (f : Weight) (B : ℕ) → Good N Z ts f B → whole * ahead None p f 0 0 (at_start i) ≤ N ^ length p * worth_of_all f B r
+    last : Vaguer o (last_after None p)
 
   -- and on to the next node
   covers_on : (p : List ℕ) (q b : ℕ) → among (preds b) q ≡ true → Covers p (node_rows a q) (last_of i q) → Covers (p ++ run_of i b) (node_rows a b) (last_of i b)
   unfolding node_last
-  covers_on p q b e c = record { stands = on; last = rw (last_append unknown p bs) (last_on (known i b) (last_after unknown p) bs less) }
+  covers_on p q b e c = record { stands = on; last = rw (last_append None p bs) (last_on (known i b) (last_after None p) bs less) }
     where
       bs : List ℕ
       bs = run_of i b
@@ -225,7 +224,7 @@ module _ (a : Asked) (ok : Checked (graph_of a)) where
       here : b < nodes i
       here = (predecessor_lower i ok q b e).1
 
-      less : Vaguer (known i b) (last_after unknown p)
+      less : Vaguer (known i b) (last_after None p)
       less = vaguer_trans _ _ _ (rw (last_stays i b q q<b) at (last_before_lem (lasts_to i b) (preds b) q e)) c.last
 
       before_b : (x : ℕ) → among (preds b) x ≡ true → Fit N Z ts (longest_before i b) (node_rows a x)
@@ -233,16 +232,16 @@ module _ (a : Asked) (ok : Checked (graph_of a)) where
           fit_wider N Z ts (up_to i x) (longest_before i b) (node_rows a x) (before_each i ok b x h)
           (node_within x (omega (arith, (predecessor_lower i ok x b h).0, here)))
 
-      on : (f : Weight) (B : ℕ) → Good N Z ts f B → whole * ahead unknown (p ++ bs) f 0 0 (at_start i) ≤ N ^ length (p ++ bs) * worth_of_all f B (node_rows a b)
+      on : (f : Weight) (B : ℕ) → Good N Z ts f B → whole * ahead None (p ++ bs) f 0 0 (at_start i) ≤ N ^ length (p ++ bs) * worth_of_all f B (node_rows a b)
       on f B good =
           rw (
-            targets_append Z ts unknown p bs,
-            value_append f N (targets_of Z ts unknown p) (targets_of Z ts (last_after unknown p) bs),
+            targets_append Z ts None p bs,
+            value_append f N (targets_of Z ts None p) (targets_of Z ts (last_after None p) bs),
             length-append p bs,
             pow-add N (length p) (length bs),
             regroup (worth_of_all f B (node_rows a b)),
           )
-          (le_trans (c.stands (ahead (last_after unknown p) bs f) D (good_ahead (last_after unknown p)))
+          (le_trans (c.stands (ahead (last_after None p) bs f) D (good_ahead (last_after None p)))
           (mul-le-mul_left (N ^ length p)
           (le_trans vague (le_trans (entered_low (longest_before i b) b before_b (ahead (known i b) bs f) D (good_ahead (known i b)) q e)
           (node_low (longest_before i b) b before_b f B good)))))
@@ -257,24 +256,24 @@ module _ (a : Asked) (ok : Checked (graph_of a)) where
           good_ahead o = good_before N Z ts ok.few_ways ok.some_sets ok.few_sets f B good o bs
 
           -- where less is known of the last block
-          vague : worth_of_all (ahead (last_after unknown p) bs f) D (node_rows a q) ≤ worth_of_all (ahead (known i b) bs f) D (node_rows a q)
+          vague : worth_of_all (ahead (last_after None p) bs f) D (node_rows a q) ≤ worth_of_all (ahead (known i b) bs f) D (node_rows a q)
           vague =
               omega (
                 arith,
-                worth_more N Z ts (longest_before i b) (ahead (last_after unknown p) bs f) (ahead (known i b) bs f)
-                    (value_vaguer N Z ts ok.few_ways f good.rises ok.some_sets ok.few_sets (known i b) (last_after unknown p) less bs)
+                worth_more N Z ts (longest_before i b) (ahead (last_after None p) bs f) (ahead (known i b) bs f)
+                    (value_vaguer N Z ts ok.few_ways f good.rises ok.some_sets ok.few_sets (known i b) (last_after None p) less bs)
                     (node_rows a q).kept.table (before_b q e).shaped,
               )
 
   -- node 0 starts from the start
-  pub node_start : node_rows a 0 ≡ run N Z a.contents a.cells ts (live_after i 0) unknown (run_of i 0) (begun (at_start i))
+  pub node_start : node_rows a 0 ≡ run N Z a.contents a.cells ts (live_after i 0) None (run_of i 0) (begun (at_start i))
   unfolding node worked enter last_before
   node_start =
       ap (λ (ps : List ℕ). run N Z a.contents a.cells ts (live_after i 0) (last_before (lasts_to i 0) ps) (run_of i 0)
       (enter a.contents (length ts) (live_before i 0) (at_start i) (worked a 0) ps)) (no_predecessors i ok)
 
   pub path_covers : (path : List ℕ) → is_path i path ≡ true → (f : Weight) (B : ℕ) → Good N Z ts f B
-      → whole * ahead unknown (accesses_of i path) f 0 0 (at_start i) ≤ N ^ length (accesses_of i path) * worth_of_all f B (finished a)
+      → whole * ahead None (accesses_of i path) f 0 0 (at_start i) ≤ N ^ length (accesses_of i path) * worth_of_all f B (finished a)
   unfolding node_last
   path_covers path h =
       rw (finished_rows a ok.some_nodes) (along_path i (λ p j. Covers p (node_rows a j) (last_of i j)) covers_on start path h).stands
@@ -286,11 +285,11 @@ module _ (a : Asked) (ok : Checked (graph_of a)) where
                 rw node_start
                 (omega (
                   arith,
-                  run_low N Z a.contents a.cells ts ok.some_ways ok.few_ways ok.some_sets ok.few_sets (live_after i 0) f B good 0 unknown (run_of i 0) (begun (at_start i))
+                  run_low N Z a.contents a.cells ts ok.some_ways ok.few_ways ok.some_sets ok.few_sets (live_after i 0) f B good 0 None (run_of i 0) (begun (at_start i))
                       (begun_fit N Z ts (at_start i) (start_most i ok)),
                 ));
-            last = last_on (known i 0) unknown (run_of i 0) first_vague;
+            last = last_on (known i 0) None (run_of i 0) first_vague;
           }
         where
-          first_vague : Vaguer (known i 0) unknown
+          first_vague : Vaguer (known i 0) None
           first_vague = inl (first_known i ok)

@@ -1,6 +1,7 @@
 -- A join is worth no less than either table. Units are paired one pair after the other, no more than are left of either state, so that what a table was worth is what its
 -- pairs are and what is left of it; each pair gives both its states weakened; and what is left is lost, which counts for at least as much. How the pairs are chosen, and
 -- in which order, does not matter to this.
+use Rattle.std.specs.Prelude.{None}
 use mathlib.Core.Path.{◌≡◌, refl, ap, ◌∙◌}
 use mathlib.Core.Logic.{◌≢◌}
 use mathlib.Core.List.{List, [], ◌∷◌, map}
@@ -10,7 +11,6 @@ use native.Mathlib.Omega.{arith}
 use Rattle.basics.specs.Sums.{sum_over}
 use Rattle.rules.specs.declared.State.{State}
 use Rattle.rules.specs.declared.Filled.{Filled}
-use Rattle.rules.specs.declared.Place.TheVariants.{Untracked as untracked}
 use Rattle.rules.specs.Units.{whole}
 use Rattle.rules.specs.Contents.{places}
 use Rattle.rules.specs.AnyTable.{Match, total as total_of, paired as paired_of}
@@ -237,12 +237,12 @@ module _ (N Z : ℕ) (ts : List ℕ) (M : ℕ) (K k a : ℕ) (q r : Rows) (left 
         )
 
     -- before the filled numbers
-    reduces : Sure N Z ts M f B good 0 mid (record { kept = reduced K k untracked mid.kept; lost = mid.lost })
-    reduces = sure_reduced N Z ts M f B good 0 K k untracked mid.kept mid.lost mid_fit
+    reduces : Sure N Z ts M f B good 0 mid (record { kept = reduced K k None mid.kept; lost = mid.lost })
+    reduces = sure_reduced N Z ts M f B good 0 K k None mid.kept mid.lost mid_fit
 
-    settled : Fit N Z ts M (join K k a q r) × (worth_of_all f B (record { kept = reduced K k untracked mid.kept; lost = mid.lost }) ≤ worth_of_all f B (join K k a q r))
+    settled : Fit N Z ts M (join K k a q r) × (worth_of_all f B (record { kept = reduced K k None mid.kept; lost = mid.lost }) ≤ worth_of_all f B (join K k a q r))
     unfolding join
-    settled = filled_up_fit N Z ts M f B good 0 (filled_of S T) (filled_of_most N Z ts M S T left.shaped right.shaped) (reduced K k untracked mid.kept) mid.lost reduces.fit
+    settled = filled_up_fit N Z ts M f B good 0 (filled_of S T) (filled_of_most N Z ts M S T left.shaped right.shaped) (reduced K k None mid.kept) mid.lost reduces.fit
 
     pub join_fit : Fit N Z ts M (join K k a q r)
     join_fit = settled.0

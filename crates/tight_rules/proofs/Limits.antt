@@ -1,5 +1,6 @@
 -- The limits are kept: at most K contents after the reduction of an access and of a join, at most W - 1 cells after the row ends. The row ends bring in no contents, and what
 -- comes after them changes no mask and no miss count.
+use Rattle.std.specs.Prelude.{None, Some}
 use mathlib.Core.Path.{◌≡◌, refl, sym, ap, ◌∙◌}
 use mathlib.Core.Logic.{◌≢◌}
 use mathlib.Core.Bool.{Bool, true, false, cond}
@@ -10,12 +11,10 @@ use native.Mathlib.Omega.{arith}
 use lib.Dec.{ltb}
 use lib.ListN.{length}
 use borrow.Author.Tests.{ltb-false}
-use Rattle.rules.specs.declared.Place.{Place}
-use Rattle.rules.specs.declared.Place.TheVariants.{At as at, Untracked as untracked}
 use Rattle.rules.specs.declared.State.{State}
 use Rattle.rules.specs.declared.Target.{Target}
 use Rattle.rules.specs.AnyTable.{access as access_of}
-use Rattle.rules.specs.Contents.{places, bit, has, hits, without, shared, held, size}
+use Rattle.rules.specs.Contents.{places, bit, has, hits, without, shared, held, size, Place}
 use Rattle.rules.specs.Table.{units_of}
 use Rattle.rules.specs.Step.{at_risk, missed, rest_of, miss, successors, access}
 use Rattle.rules.specs.Shape.{Every, Aimed}
@@ -36,7 +35,7 @@ use Rattle.tight_rules.proofs.Joins.{mid, mid_fit}
 
 module _ (N : ℕ) (x : Target) where
   abbrev Has : State → Type 0
-  Has s = (i : ℕ) → x.place ≡ at i → bit s.mask i ≡ true
+  Has s = (i : ℕ) → x.place ≡ Some i → bit s.mask i ≡ true
 
   successors_have : (s : State) → Every (λ t. units_of t ≢ 0 → Has t) (successors N x s)
   unfolding successors miss
@@ -79,27 +78,27 @@ module _ (N Z : ℕ) (ts : List ℕ) (K : ℕ) (room : length ts ≤ places) (st
   unfolding narrowed stepped
   access_few some few x aim r fit L =
       reduced_few N Z ts (suc M) K (alive L x.place) r.lost room states (narrowed L (stepped N x r.kept))
-      (sure_narrowed N Z ts (suc M) (λ C m F. 0) 0 (good_none N Z ts (suc M) K untracked r.lost) L (stepped N x r.kept) r.lost (after_fit N Z ts some few M x aim r fit)).fit
-      (move_every (λ C. (i : ℕ) → alive L x.place ≡ at i → bit C i ≡ true) (narrow L) (access N x r.kept.table)
-      (every_weaker (Has N x) (λ s. (i : ℕ) → alive L x.place ≡ at i → bit (shared s.mask L) i ≡ true) (λ s h. stays x.place s.mask h)
+      (sure_narrowed N Z ts (suc M) (λ C m F. 0) 0 (good_none N Z ts (suc M) K None r.lost) L (stepped N x r.kept) r.lost (after_fit N Z ts some few M x aim r fit)).fit
+      (move_every (λ C. (i : ℕ) → alive L x.place ≡ Some i → bit C i ≡ true) (narrow L) (access N x r.kept.table)
+      (every_weaker (Has N x) (λ s. (i : ℕ) → alive L x.place ≡ Some i → bit (shared s.mask L) i ≡ true) (λ s h. stays x.place s.mask h)
       (access N x r.kept.table) (access_has N x r.kept.table)))
     where
-      stays : (y : Place) (C : ℕ) → ((i : ℕ) → y ≡ at i → bit C i ≡ true) → (i : ℕ) → alive L y ≡ at i → bit (shared C L) i ≡ true
-      stays untracked C h i e = absurd (let z : ◌≡◌ {A = ℕ} 0 1 = cc in omega arith)
-      stays (at j) C h i e = go (bit L j) refl e
+      stays : (y : Place) (C : ℕ) → ((i : ℕ) → y ≡ Some i → bit C i ≡ true) → (i : ℕ) → alive L y ≡ Some i → bit (shared C L) i ≡ true
+      stays None C h i e = absurd (let z : ◌≡◌ {A = ℕ} 0 1 = cc in omega arith)
+      stays (Some j) C h i e = go (bit L j) refl e
         where
-          go : (b : Bool) → bit L j ≡ b → cond b (at j) untracked ≡ at i → bit (shared C L) i ≡ true
+          go : (b : Bool) → bit L j ≡ b → cond b (Some j) None ≡ Some i → bit (shared C L) i ≡ true
           go true q e = let z : j ≡ i = cc in rw (← z) (both_shared C L j (h j refl) q)
           go false q e = absurd (let z : ◌≡◌ {A = ℕ} 0 1 = cc in omega arith)
 
   -- whatever is set aside so far
   pub join_few : (k a : ℕ) (q r : Rows) (left : Fit N Z ts M q) (right : Fit N Z ts M r)
-      → length (contents (reduced K (length ts) untracked (mid N Z ts M K k a q r left right).kept).table) ≤ K
+      → length (contents (reduced K (length ts) None (mid N Z ts M K k a q r left right).kept).table) ≤ K
   join_few k a q r left right =
-      reduced_few N Z ts M K untracked (mid N Z ts M K k a q r left right).lost room states (mid N Z ts M K k a q r left right).kept (mid_fit N Z ts M K k a q r left right)
+      reduced_few N Z ts M K None (mid N Z ts M K k a q r left right).lost room states (mid N Z ts M K k a q r left right).kept (mid_fit N Z ts M K k a q r left right)
       (each (mid N Z ts M K k a q r left right).kept.table)
     where
-      each : (T : List State) → Every (λ s. (i : ℕ) → untracked ≡ at i → bit s.mask i ≡ true) T
+      each : (T : List State) → Every (λ s. (i : ℕ) → None ≡ Some i → bit s.mask i ≡ true) T
       each [] = tt
       each (s ∷ T) = (λ i e. absurd (let z : ◌≡◌ {A = ℕ} 0 1 = cc in omega arith), each T)
 

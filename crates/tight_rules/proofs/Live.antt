@@ -12,8 +12,7 @@ use lib.Dec.{eqb}
 use lib.ListN.{get_or}
 use borrow.Author.Tests.{eqb-true}
 use Rattle.basics.proofs.Bools.{and_left, and_right, or_cases, or_left, or_right}
-use Rattle.rules.specs.declared.Last.{Last}
-use Rattle.rules.specs.Contents.{bit, last_after}
+use Rattle.rules.specs.Contents.{bit, last_after, Last}
 use Rattle.rules.specs.Input.{Input, nodes, run_of, Edge, edges_of}
 use Rattle.rules.proofs.Bits.{bit_or_lem}
 use Rattle.rules.proofs.Contents.{Sub}

@@ -13,7 +13,6 @@ use lib.ListN.{length}
 use borrow.Author.Tests.{eqb-true}
 use Rattle.basics.specs.Sums.{sum_over}
 use Rattle.rules.specs.declared.State.{State}
-use Rattle.rules.specs.declared.Place.{Place}
 use Rattle.rules.specs.declared.Filled.{Filled}
 use Rattle.rules.specs.Units.{whole, more}
 use Rattle.rules.specs.AnyTable.{total as total_of}
@@ -23,7 +22,7 @@ use Rattle.rules.specs.Filling.{filled_at, fullest}
 use Rattle.rules.specs.Counts.{above as above_of}
 use Rattle.rules.specs.Questions.{above, smallest_budget}
 use Rattle.rules.specs.Shape.{Every, Room, Loose, Shaped}
-use Rattle.rules.specs.Contents.{shared}
+use Rattle.rules.specs.Contents.{shared, Place}
 use Rattle.rules.proofs.Lists.{every_map}
 use Rattle.rules.proofs.Splitting.{more_stops, more_cases}
 use Rattle.rules.proofs.Contents.{sub_shared_left, shared_lt}

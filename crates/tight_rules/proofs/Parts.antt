@@ -1,14 +1,13 @@
 -- What takes blocks away takes nothing else: contents that lose their highest place, once or again and again, are part of what they were, and keep the block that is held back. Nothing else is asked of a
 -- reduction: what each emptying of contents keeps, the whole of it keeps, whoever is emptied and in whatever order.
+use Rattle.std.specs.Prelude.{Some}
 use mathlib.Core.Path.{◌≡◌, refl, sym, ap, ◌∙◌}
 use mathlib.Core.Bool.{Bool, true, false, cond, ◌&&◌, not, true≢false}
 use mathlib.Core.List.{List, [], ◌∷◌}
 use Prim.Native.Nat.{ℕ, zero, suc, ◌-◌, ◌<◌, ◌^◌}
 use borrow.Author.Tests.{eq-eqb}
 use Rattle.basics.proofs.Bools.{and_left, and_right}
-use Rattle.rules.specs.declared.Place.{Place}
-use Rattle.rules.specs.declared.Place.TheVariants.{At as at}
-use Rattle.rules.specs.Contents.{places, among, bit, without}
+use Rattle.rules.specs.Contents.{places, among, bit, without, Place}
 use Rattle.rules.specs.Table.{Work}
 use Rattle.rules.proofs.Contents.{Sub, sub_without, without_lt, without_keeps}
 use Rattle.tight_rules.specs.Rows.{moved}
@@ -18,7 +17,7 @@ use Rattle.tight_rules.specs.Reduction.{is_at, lowered, lands, relabel, Reducing
 pub record Part (y : Place) (D C : ℕ) : Type 0 where
   pub inside : Sub D C
   pub short : (k : ℕ) → C < 2 ^ k → D < 2 ^ k
-  pub holds : (i : ℕ) → y ≡ at i → bit C i ≡ true → bit D i ≡ true
+  pub holds : (i : ℕ) → y ≡ Some i → bit C i ≡ true → bit D i ≡ true
 
 pub part_same : (y : Place) (C : ℕ) → Part y C C
 part_same y C = record { inside = λ i h. h; short = λ k h. h; holds = λ i e h. h }

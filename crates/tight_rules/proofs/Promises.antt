@@ -1,5 +1,6 @@
 -- The promises of the second curve, together and with all that they assume: an input that is accepted, by the very definition that refuses it (its verdict says 0). N is
 -- its ways in each set, L the accesses of the path, `whole` is 2^48. The machine and the paths are those of the first curve's promises; it starts empty unless said.
+use Rattle.std.specs.Prelude.{None}
 use mathlib.Core.Path.{◌≡◌, refl, ap, ◌∙◌}
 use mathlib.Core.Bool.{true, false}
 use mathlib.Core.Logic.{◌⊎◌, inl, inr, ⊎_elim}
@@ -17,7 +18,6 @@ use Rattle.machine.specs.Draws.{count_from, count}
 use Rattle.machine.proofs.Draws.{total as total_draws}
 use Rattle.rules.specs.Answers.{verdict_says}
 use Rattle.rules.specs.declared.Start.TheVariants.{Cold as cold}
-use Rattle.rules.specs.declared.Last.TheVariants.{Unknown as unknown}
 use Rattle.rules.specs.Input.{nodes, run_of}
 use Rattle.rules.specs.Questions.{above, largest}
 use Rattle.rules.specs.Cycles.{cores, core_at, above_cycles}
@@ -55,7 +55,7 @@ use Rattle.tight_rules.proofs.Curves.{accepted, above_good, above_most, above_le
 module _ (a : Asked) (ok : Checked (graph_of a)) where
   safe_from : (c : Cache) → c.misses ≡ 0
       → ((W : Weight) → Rises a.ways a.sets a.tracked W → (p : List ℕ)
-      → total_draws (seen (revision_of (graph_of a)) a.tracked W) (revision_of (graph_of a)) a.ways c p ≤ ahead a ok unknown p W 0 0 (at_start (graph_of a)))
+      → total_draws (seen (revision_of (graph_of a)) a.tracked W) (revision_of (graph_of a)) a.ways c p ≤ ahead a ok None p W 0 0 (at_start (graph_of a)))
       → (path : List ℕ) → is_path (graph_of a) path ≡ true → (B : ℕ)
       → count_from (over B) (revision_of (graph_of a)) a.ways c (accesses_of (graph_of a) path) * whole ≤ above B (curve a) * a.ways ^ length (accesses_of (graph_of a) path)
   safe_from c fresh machine path p B = go (dec_lt B (longest (graph_of a)))
@@ -76,23 +76,23 @@ module _ (a : Asked) (ok : Checked (graph_of a)) where
 
   -- a straight run: its accesses from the start
   straight : nodes (graph_of a) ≡ 1
-      → finished a ≡ run a.ways a.sets a.contents a.cells a.tracked (live_after (graph_of a) 0) unknown a.accesses (begun (at_start (graph_of a)))
+      → finished a ≡ run a.ways a.sets a.contents a.cells a.tracked (live_after (graph_of a) 0) None a.accesses (begun (at_start (graph_of a)))
   straight one =
       finished_rows a ok.some_nodes
       ∙ ap (node_rows a) (omega arith)
       ∙ node_start a ok
-      ∙ ap (λ (bs : List ℕ). run a.ways a.sets a.contents a.cells a.tracked (live_after (graph_of a) 0) unknown bs (begun (at_start (graph_of a)))) (whole_run (graph_of a) ok one)
+      ∙ ap (λ (bs : List ℕ). run a.ways a.sets a.contents a.cells a.tracked (live_after (graph_of a) 0) None bs (begun (at_start (graph_of a)))) (whole_run (graph_of a) ok one)
 
   -- its table has no more above a budget than the draws and what is set aside make up for
   near_straight : nodes (graph_of a) ≡ 1 → (B : ℕ)
       → ((finished a).kept.aside ≡ whole)
       ⊎ (above B (curve a) * a.ways ^ length a.accesses
-      ≤ whole * ahead a ok unknown a.accesses (one_where (over_is B)) 0 0 (at_start (graph_of a)) + (finished a).kept.aside * a.ways ^ length a.accesses)
+      ≤ whole * ahead a ok None a.accesses (one_where (over_is B)) 0 0 (at_start (graph_of a)) + (finished a).kept.aside * a.ways ^ length a.accesses)
   near_straight one B =
       ⊎_elim (λ e. inl (ap (λ (r : Rows). r.kept.aside) (straight one) ∙ e))
       (λ h. inr (omega (arith, mul-le-mul_right (a.ways ^ length a.accesses) (above_most a B), rw (← straight one) at h)))
       (run_high a.ways a.sets a.contents a.cells a.tracked ok.some_ways ok.few_ways ok.some_sets ok.few_sets (live_after (graph_of a) 0)
-      (one_where (over_is B)) 1 (above_good a.ways a.sets a.tracked B) 0 unknown a.accesses (begun (at_start (graph_of a)))
+      (one_where (over_is B)) 1 (above_good a.ways a.sets a.tracked B) 0 None a.accesses (begun (at_start (graph_of a)))
       (begun_fit a.ways a.sets a.tracked (at_start (graph_of a)) (start_most (graph_of a) ok)) (λ C m F room. le_refl _))
 
 -- the path of one node, and its accesses

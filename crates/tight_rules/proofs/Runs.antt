@@ -1,5 +1,6 @@
 -- A run, accounted for from its first access to its last: what the table it starts from is worth along its accesses, against N ^ (its length) times what the table it
 -- ends in is worth. Each access is one factor N.
+use Rattle.std.specs.Prelude.{Some}
 use mathlib.Core.Path.{◌≡◌, ap, ◌∙◌}
 use mathlib.Core.Logic.{◌⊎◌, inl, inr}
 use mathlib.Core.List.{List, [], ◌∷◌}
@@ -8,10 +9,8 @@ use native.Mathlib.Nat.{mul-le-mul_left, pow-zero, pow-succ'}
 use native.Mathlib.Omega.{arith}
 use lib.ListN.{length}
 use Rattle.rules.specs.declared.Target.{Target}
-use Rattle.rules.specs.declared.Last.{Last}
-use Rattle.rules.specs.declared.Last.TheVariants.{Block as block}
 use Rattle.rules.specs.Units.{whole}
-use Rattle.rules.specs.Contents.{find, with, target_of}
+use Rattle.rules.specs.Contents.{find, with, target_of, Last}
 use Rattle.rules.specs.Table.{total}
 use Rattle.rules.specs.Step.{access_aside}
 use Rattle.rules.specs.Shape.{Aimed}
@@ -107,7 +106,7 @@ module _ (N Z : ℕ) (ts : List ℕ) (few : N ≤ 16) (sets : 0 < Z) (few_sets :
       one_times : (n : ℕ) → 1 * n ≡ n
       one_times n = omega arith
   good_before f B good p (b ∷ bs) =
-      rw (pow-succ' N (length bs), regroup (N ^ length bs)) (step (good_before f B good (block b) bs))
+      rw (pow-succ' N (length bs), regroup (N ^ length bs)) (step (good_before f B good (Some b) bs))
     where
       regroup : (n : ℕ) → N * n * B ≡ N * (n * B)
       regroup n = omega arith
@@ -128,9 +127,9 @@ module _ (N Z : ℕ) (ts : List ℕ) (few : N ≤ 16) (sets : 0 < Z) (few_sets :
   deaf_before f B good L deaf p [] = deaf
   deaf_before f B good L deaf p (b ∷ bs) =
       ahead_deaf N Z ts few (target_of Z ts p b) (aimed Z ts sets few_sets p b) (with (living ts L bs) (find ts b))
-      (λ i e. rw e (with_new (living ts L bs) i)) (before (block b) bs f) (good_before f B good (block b) bs).rises
-      (deaf_wider N Z ts (living ts L bs) (with (living ts L bs) (find ts b)) (before (block b) bs f) (λ i h. with_keeps (living ts L bs) (find ts b) i h)
-      (good_before f B good (block b) bs).rises (deaf_before f B good L deaf (block b) bs))
+      (λ i e. rw e (with_new (living ts L bs) i)) (before (Some b) bs f) (good_before f B good (Some b) bs).rises
+      (deaf_wider N Z ts (living ts L bs) (with (living ts L bs) (find ts b)) (before (Some b) bs f) (λ i h. with_keeps (living ts L bs) (find ts b) i h)
+      (good_before f B good (Some b) bs).rises (deaf_before f B good L deaf (Some b) bs))
 
 -- ---- a run
 
@@ -150,12 +149,12 @@ module _ (N Z K W : ℕ) (ts : List ℕ) (some : 0 < N) (few : N ≤ 16) (sets :
 
   module _ (f : Weight) (B : ℕ) (good : Good N Z ts f B) where
     -- what the rest of the run is to be worth
-    rest : (b : ℕ) (bs : List ℕ) → Good N Z ts (prior (block b) bs f) (N ^ length bs * B)
-    rest b bs = good_before N Z ts few sets few_sets f B good (block b) bs
+    rest : (b : ℕ) (bs : List ℕ) → Good N Z ts (prior (Some b) bs f) (N ^ length bs * B)
+    rest b bs = good_before N Z ts few sets few_sets f B good (Some b) bs
 
     pub next_fit : (M : ℕ) (p : Last) (b : ℕ) (bs : List ℕ) (r : Rows) → Fit N Z ts M r → Fit N Z ts (suc M) (next p b bs r)
     next_fit M p b bs r fit =
-        (settles N Z ts some few M (target_of Z ts p b) (aim p b) r fit (prior (block b) bs f) (N ^ length bs * B) (rest b bs) (living ts L bs) K W (length ts)).fit
+        (settles N Z ts some few M (target_of Z ts p b) (aim p b) r fit (prior (Some b) bs f) (N ^ length bs * B) (rest b bs) (living ts L bs) K W (length ts)).fit
 
     pub run_fit : (M : ℕ) (p : Last) (bs : List ℕ) (r : Rows) → Fit N Z ts M r → Fit N Z ts (length bs + M) (ran p bs r)
     unfolding run
@@ -163,7 +162,7 @@ module _ (N Z K W : ℕ) (ts : List ℕ) (some : 0 < N) (few : N ≤ 16) (sets :
       where
         none : (n : ℕ) → 0 + n ≡ n
         none n = omega arith
-    run_fit M p (b ∷ bs) r fit = rw (shift (length bs)) (run_fit (suc M) (block b) bs (next p b bs r) (next_fit M p b bs r fit))
+    run_fit M p (b ∷ bs) r fit = rw (shift (length bs)) (run_fit (suc M) (Some b) bs (next p b bs r) (next_fit M p b bs r fit))
       where
         shift : (n : ℕ) → suc n + M ≡ n + suc M
         shift n = omega arith
@@ -176,16 +175,16 @@ module _ (N Z K W : ℕ) (ts : List ℕ) (some : 0 < N) (few : N ≤ 16) (sets :
         rw (pow-succ' N (length bs))
         (omega (
           arith,
-          advance_low N Z ts some few M (target_of Z ts p b) (aim p b) r fit (prior (block b) bs f) (N ^ length bs * B) (rest b bs) (living ts L bs) K W (length ts),
-          mul-le-mul_left N (run_low (suc M) (block b) bs (next p b bs r) (next_fit M p b bs r fit)),
+          advance_low N Z ts some few M (target_of Z ts p b) (aim p b) r fit (prior (Some b) bs f) (N ^ length bs * B) (rest b bs) (living ts L bs) K W (length ts),
+          mul-le-mul_left N (run_low (suc M) (Some b) bs (next p b bs r) (next_fit M p b bs r fit)),
         ))
 
     run_stopped : (M : ℕ) (p : Last) (bs : List ℕ) (r : Rows) → Fit N Z ts M r → r.kept.aside ≡ whole → (ran p bs r).kept.aside ≡ whole
     unfolding run
     run_stopped M p [] r fit e = e
     run_stopped M p (b ∷ bs) r fit e =
-        run_stopped (suc M) (block b) bs (next p b bs r) (next_fit M p b bs r fit)
-        (advance_stopped N Z ts some few M (target_of Z ts p b) (aim p b) r fit (prior (block b) bs f) (N ^ length bs * B) (rest b bs) (living ts L bs) K W (length ts) e)
+        run_stopped (suc M) (Some b) bs (next p b bs r) (next_fit M p b bs r fit)
+        (advance_stopped N Z ts some few M (target_of Z ts p b) (aim p b) r fit (prior (Some b) bs f) (N ^ length bs * B) (rest b bs) (living ts L bs) K W (length ts) e)
 
     pub run_high : (M : ℕ) (p : Last) (bs : List ℕ) (r : Rows) → Fit N Z ts M r → Deaf N Z ts L f
         → ((ran p bs r).kept.aside ≡ whole)
@@ -195,17 +194,17 @@ module _ (N Z K W : ℕ) (ts : List ℕ) (some : 0 < N) (few : N ≤ 16) (sets :
     run_high M p [] r fit deaf = inr (rw (pow-zero N) (omega arith))
     run_high M p (b ∷ bs) r fit deaf =
         go (advance_high N Z ts some few M (target_of Z ts p b) (aim p b) r fit g D (rest b bs) (living ts L bs) K W (length ts)
-        (deaf_before N Z ts few sets few_sets f B good L deaf (block b) bs))
-        (run_high (suc M) (block b) bs v (next_fit M p b bs r fit) deaf)
+        (deaf_before N Z ts few sets few_sets f B good L deaf (Some b) bs))
+        (run_high (suc M) (Some b) bs v (next_fit M p b bs r fit) deaf)
       where
         v : Rows
         v = next p b bs r
 
         z : Rows
-        z = ran (block b) bs v
+        z = ran (Some b) bs v
 
         g : Weight
-        g = prior (block b) bs f
+        g = prior (Some b) bs f
 
         D : ℕ
         D = N ^ length bs * B
@@ -217,6 +216,6 @@ module _ (N Z K W : ℕ) (ts : List ℕ) (some : 0 < N) (few : N ≤ 16) (sets :
             → (z.kept.aside ≡ whole)
             ⊎ (N ^ suc (length bs) * worth_of_all f B z + r.kept.aside * (N ^ suc (length bs) * B)
             ≤ worth_of_all (ahead N (target_of Z ts p b) g) (N ^ suc (length bs) * B) r + z.kept.aside * (N ^ suc (length bs) * B))
-        go (inl e) h = inl (run_stopped (suc M) (block b) bs v (next_fit M p b bs r fit) e)
+        go (inl e) h = inl (run_stopped (suc M) (Some b) bs v (next_fit M p b bs r fit) e)
         go (inr y) (inl h) = inl h
         go (inr y) (inr h) = inr (rw (pow-succ' N (length bs)) (omega (arith, y, mul-le-mul_left N h)))

@@ -1,8 +1,7 @@
 -- Joining two tables: contents that share most blocks are paired first, and of each pair's rows the highest miss counts first.
-use Rattle.std.specs.Prelude.{cond, ℕ, zero, suc, ◌+◌, ◌-◌, min, eqb, leb, set}
+use Rattle.std.specs.Prelude.{cond, ℕ, zero, suc, ◌+◌, ◌-◌, min, eqb, leb, set, None}
 use mathlib.Core.List.{List, [], ◌∷◌, ◌++◌, map, flat_map}
 use Rattle.basics.specs.Sums.{sum_over}
-use Rattle.rules.specs.declared.Place.TheVariants.{Untracked as untracked}
 use Rattle.rules.specs.Contents.{places, shared, size}
 use Rattle.rules.specs.declared.State.{State}
 use Rattle.rules.specs.declared.Filled.{Filled}
@@ -80,6 +79,6 @@ join K k a q r =
     let T = r.kept.table in
     let P = pairing S T in
     record {
-      kept = filled_up (filled_of S T) (reduced K k untracked (record { table = paired P S T; aside = a }));
+      kept = filled_up (filled_of S T) (reduced K k None (record { table = paired P S T; aside = a }));
       lost = q.lost + (total S - sum_over (λ p. p.units) P);
     }

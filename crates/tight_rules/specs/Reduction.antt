@@ -1,16 +1,14 @@
 -- Reduction to at most K contents: light contents lose their highest place. Whole rows move; miss counts stay as they are.
-use Rattle.std.specs.Prelude.{Bool, true, false, cond, ◌&&◌, not, List, [], ◌∷◌, ℕ, zero, suc, ◌-◌, ◌^◌, eqb, ltb, length}
-use Rattle.rules.specs.declared.Place.{Place}
-use Rattle.rules.specs.declared.Place.TheVariants.{At as at, Untracked as untracked}
-use Rattle.rules.specs.Contents.{places, among, bit, without}
+use Rattle.std.specs.Prelude.{Bool, true, false, cond, ◌&&◌, not, List, [], ◌∷◌, ℕ, zero, suc, ◌-◌, ◌^◌, eqb, ltb, length, None, Some}
+use Rattle.rules.specs.Contents.{places, among, bit, without, Place}
 use Rattle.rules.specs.declared.State.{State}
 use Rattle.rules.specs.Table.{state, units_of, Work}
 use Rattle.tight_rules.specs.Rows.{contents, units_in, moved}
 
 -- whether y is place i
 abbrev pub is_at : Place → ℕ → Bool
-is_at (at j) i = eqb j i
-is_at untracked i = false
+is_at (Some j) i = eqb j i
+is_at None i = false
 
 -- C without the block at its highest place below k; the one at y does not count, and stays
 unfoldable pub lowered : ℕ → Place → ℕ → ℕ

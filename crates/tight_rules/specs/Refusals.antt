@@ -1,9 +1,7 @@
 -- When the second analysis says no: document 01's reasons in its order, with limits and rooms of its own.
-use Rattle.std.specs.Prelude.{◌||◌, List, [], ◌∷◌, ◌++◌, ℕ, ◌+◌, ltb, length}
+use Rattle.std.specs.Prelude.{◌||◌, List, [], ◌∷◌, ◌++◌, ℕ, ◌+◌, ltb, length, Err, Ok}
 use Rattle.rules.specs.declared.Refusal.TheVariants.{Limit, Room}
-use Rattle.rules.specs.declared.Verdict.{Verdict}
-use Rattle.rules.specs.declared.Verdict.TheVariants.{Accepted, Refused}
-use Rattle.rules.specs.Answers.{Reason, when, first}
+use Rattle.rules.specs.Answers.{Reason, when, first, Verdict}
 use Rattle.rules.specs.Refusals.{outside, ways_reason, sets_reason, revision_reason, tracked_reason, accesses_reason, graph_reason}
 use Rattle.tight_rules.specs.Asked.{Asked, graph_of}
 use Rattle.tight_rules.specs.Rooms.{room_needed}
@@ -34,8 +32,8 @@ verdict a = first (reasons a)
 
 -- the words, or 0 for a refusal
 abbrev pub words_or : Verdict → ℕ → ℕ
-words_or Accepted n = n
-words_or (Refused r) n = 0
+words_or (Ok tt) n = n
+words_or (Err r) n = 0
 
 -- the words of working room that are needed; 0 where one of 1 to 5, 10 and 11 is given, whatever the room
 unfoldable pub room_answer : Asked → ℕ

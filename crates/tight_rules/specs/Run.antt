@@ -1,13 +1,9 @@
 -- A run of accesses: at each document 01's step, then the blocks that are dead leave, then the contents are reduced, then the row ends. N ways in each of Z sets, at
 -- most K contents, rows of W cells, the tracked blocks ts.
-use Rattle.std.specs.Prelude.{cond, List, [], ◌∷◌, ℕ, length}
+use Rattle.std.specs.Prelude.{cond, List, [], ◌∷◌, ℕ, length, None, Some}
 use Rattle.rules.specs.Units.{more}
-use Rattle.rules.specs.declared.Place.{Place}
 use Rattle.rules.specs.declared.Target.{Target}
-use Rattle.rules.specs.declared.Last.{Last}
-use Rattle.rules.specs.declared.Place.TheVariants.{At as at, Untracked as untracked}
-use Rattle.rules.specs.declared.Last.TheVariants.{Block as block}
-use Rattle.rules.specs.Contents.{find, bit, with, target_of}
+use Rattle.rules.specs.Contents.{find, bit, with, target_of, Last, Place}
 use Rattle.rules.specs.Table.{Work}
 use Rattle.rules.specs.Step.{access, access_aside}
 use Rattle.tight_rules.specs.Rows.{Rows, narrowed, evened}
@@ -21,8 +17,8 @@ living ts L (b ∷ bs) = with (living ts L bs) (find ts b)
 
 -- the place y, if it is one of L
 abbrev pub alive : ℕ → Place → Place
-alive L (at i) = cond (bit L i) (at i) untracked
-alive L untracked = untracked
+alive L (Some i) = cond (bit L i) (Some i) None
+alive L None = None
 
 -- document 01's step, with what it sets aside
 unfoldable pub stepped : ℕ → Target → Work → Work
@@ -40,4 +36,4 @@ advance N K W k x L r =
 -- the accesses one after the other, where p was accessed directly before them and some path accesses the places L after them
 unfoldable pub run : ℕ → ℕ → ℕ → ℕ → List ℕ → ℕ → Last → List ℕ → Rows → Rows
 run N Z K W ts L p [] r = r
-run N Z K W ts L p (b ∷ bs) r = run N Z K W ts L (block b) bs (advance N K W (length ts) (target_of Z ts p b) (living ts L bs) r)
+run N Z K W ts L p (b ∷ bs) r = run N Z K W ts L (Some b) bs (advance N K W (length ts) (target_of Z ts p b) (living ts L bs) r)

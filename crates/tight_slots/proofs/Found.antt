@@ -1,6 +1,6 @@
--- What the loops over nodes and slots compute, and where the slots stand in the list.
+-- What the loops over nodes and slots compute, where unfolding a definition does not say it, and where the slots stand in the list.
 use mathlib.Core.Path.{◌≡◌, refl, ◌∙◌}
-use mathlib.Core.Bool.{Bool, true, false, cond, ◌||◌, ◌&&◌}
+use mathlib.Core.Bool.{Bool, true}
 use mathlib.Core.List.{List, [], ◌∷◌, ◌++◌}
 use Prim.Native.Nat.{ℕ, zero, suc, ◌+◌, ◌-◌, ◌≤◌, ◌<◌}
 use native.Mathlib.Nat.{le_refl, le_step}
@@ -8,49 +8,18 @@ use native.Mathlib.Numerals.{add-one}
 use native.Mathlib.Omega.{arith}
 use native.Mathlib.Decide.{ℕ_discrete}
 use borrow.Author.Tests.{le-leb, lt-leb}
-use lib.Dec.{eqb}
 use lib.ListN.{length, get_or, set, drop, replicate, length-append, get_or-append}
 use lib.Seq.{get_or_at, set_at, append_snoc, drop-cons}
 use Rattle.rules.specs.Input.{Edge}
 use Rattle.words.proofs.Handing.{zeros_rest}
-use Rattle.tight_rules.specs.Rooms.{passes}
 use Rattle.tight_slots.specs.Slots.{is_taken, first_free, free_at, slots_of, slot_of, slots_in}
 
--- ---- whether a slot is taken: by the highest node that is left, and by those below it
-
-pub holds_so : (own : Bool) (needed : Bool) (n : ℕ) → own ≡ true → n ≡ cond needed 1 0 → eqb n 1 ≡ (own && needed)
-holds_so own true n p e = rw (p, e) refl
-holds_so own false n p e = rw (p, e) refl
-
-module _ (es : List Edge) (v : ℕ) (ss : List ℕ) (s : ℕ) where
-  pub taken_next : (u : ℕ) (t h : Bool) → is_taken es v ss u s ≡ t → 0 < u → h ≡ (eqb (get_or ss (u - 1) 0) s && passes es (u - 1) v) → (h || is_taken es v ss (u - 1) s) ≡ t
-  unfolding is_taken
-  taken_next zero t h e l q = absurd (omega arith)
-  taken_next (suc u) t h e l q = let down : suc u - 1 ≡ u = omega arith in rw (down, q) (rw down e)
-
-  pub taken_end : (u : ℕ) (t : Bool) → is_taken es v ss u s ≡ t → u ≤ 0 → false ≡ t
-  unfolding is_taken
-  taken_end zero t e l = e
-  taken_end (suc u) t e l = absurd (omega arith)
-
 -- ---- the first slot that is free
-
-pub free_all : (es : List Edge) (v : ℕ) (ss : List ℕ) → first_free (v - 0) (is_taken es v ss v) 0 ≡ free_at es v ss
-unfolding free_at
-free_all es v ss = let all : v - 0 ≡ v = omega arith in rw all refl
 
 module _ (taken : ℕ → Bool) (v r : ℕ) where
   pub free_next : (s : ℕ) → first_free (v - s) taken s ≡ r → s < v → taken s ≡ true → first_free (v - (s + 1)) taken (s + 1) ≡ r
   unfolding first_free
   free_next s e l t = let more : v - s ≡ suc (v - (s + 1)) = omega arith in rw (add-one s) (rw t at (rw (more, add-one s) at e))
-
-  pub free_here : (s : ℕ) → first_free (v - s) taken s ≡ r → s < v → taken s ≡ false → s ≡ r
-  unfolding first_free
-  free_here s e l t = let more : v - s ≡ suc (v - (s + 1)) = omega arith in rw t at (rw more at e)
-
-  pub free_end : (s : ℕ) → first_free (v - s) taken s ≡ r → v ≤ s → s ≡ r
-  unfolding first_free
-  free_end s e l = let none : v - s ≡ 0 = omega arith in rw none at e
 
 -- ---- the slots of the nodes
 
@@ -100,9 +69,6 @@ module _ (es : List Edge) where
   one_given v s before now l e q =
       rw (add-one v, q, e, free_among v (drop v before), drop-cons before v 0 l, append_snoc (slots_of es v) (slot_of es v) (drop (suc v) before))
       (set_at (slots_of es v) (get_or before v 0) (drop (suc v) before) (slot_of es v) v (length_slots v))
-
-  pub given_to : (v n : ℕ) (before now : List ℕ) → v ≡ n → Given v before now → Given n before now
-  given_to v n before now e h = rw (← e) h
 
   -- ---- in 64 numbers
 

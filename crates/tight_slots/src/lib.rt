@@ -19,40 +19,37 @@ fn is_passing(from: u32, to: u32, u: usize, v: usize) -> bool
 }
 
 // 1 if an edge leads from node `u` to node `v` or beyond it, otherwise 0.
+#[tactic(auto, using(graph_check::proofs::Checks::edges_next), unfolding(tight_rules::specs::Rooms::passes))]
 fn passing(edges: &[u32], u: usize, v: usize) -> u64
     ensures { result ≡ cond (passes (edges_of edges.now) u v) 1 0 }
 {
-    let mut e: usize = 0;
-    while e + 1 < edges.len() {
-        if is_passing(edges[e], edges[e + 1], u, v) {
+    for e in 0..edges.len() / 2 {
+        if is_passing(edges[2 * e], edges[2 * e + 1], u, v) {
             return 1;
         }
-        e += 2;
     }
     0
 }
 
 // How many nodes before node `v` have an edge to it or beyond it.
+#[tactic(auto, using(crate::proofs::Kept::kept_few), unfolding(tight_rules::specs::Rooms::kept_below))]
 fn kept_at(edges: &[u32], v: usize) -> u64
     ensures { result ≡ kept_below (edges_of edges.now) v v }
 {
     let mut kept: u64 = 0;
-    let mut u: usize = v;
-    while 0 < u {
-        u -= 1;
+    for u in 0..v {
         kept += passing(edges, u, v);
     }
     kept
 }
 
 // The most of them over the first `n` nodes.
+#[tactic(auto, unfolding(tight_rules::specs::Rooms::most_kept))]
 pub fn most_kept(edges: &[u32], n: usize) -> u64
     ensures { result ≡ most_kept (edges_of edges.now) n }
 {
     let mut most: u64 = 0;
-    let mut v: usize = n;
-    while 0 < v {
-        v -= 1;
+    for v in 0..n {
         most = larger(most, kept_at(edges, v));
     }
     most
@@ -69,13 +66,12 @@ fn holds(edges: &[u32], u: usize, v: usize, own: u64, slot: u64) -> bool
 }
 
 // Whether a slot holds the table of a node before node `v` that node `v` or one beyond it needs; `slots` has the slots of those nodes.
+#[tactic(auto, unfolding(crate::specs::Slots::is_taken))]
 fn is_taken(slots: &[u64], edges: &[u32], v: usize, slot: u64) -> bool
     requires { v ≤ length slots.now }
     ensures { result ≡ is_taken (edges_of edges.now) v slots.now v slot }
 {
-    let mut u: usize = v;
-    while 0 < u {
-        u -= 1;
+    for u in (0..v).rev() {
         if holds(edges, u, v, slots[u], slot) {
             return true;
         }
@@ -84,34 +80,33 @@ fn is_taken(slots: &[u64], edges: &[u32], v: usize, slot: u64) -> bool
 }
 
 // The smallest slot that holds no such table.
+#[tactic(auto, unfolding(crate::specs::Slots::first_free, crate::specs::Slots::free_at))]
 fn free_slot(slots: &[u64], edges: &[u32], v: usize) -> u64
     requires { v ≤ length slots.now }
     ensures { result ≡ free_at (edges_of edges.now) v slots.now }
 {
-    let mut slot: u64 = 0;
-    while slot < v as u64 {
-        if is_taken(slots, edges, v, slot) {
-            slot += 1;
-        } else {
+    let last = v as u64;
+    for slot in 0..last {
+        if !is_taken(slots, edges, v, slot) {
             return slot;
         }
     }
-    slot
+    last
 }
 
 // Each of the first `nodes` nodes has its slot, one after the other.
+#[tactic(auto, using(crate::proofs::Found::none_given, crate::proofs::Found::one_given))]
 fn fill_slots(slots: &mut [u64], edges: &[u32], nodes: usize)
     requires { nodes ≤ length slots.old }
     ensures { slots.new ≡ slots_of (edges_of edges.now) nodes ++ drop nodes slots.old }
 {
-    let mut v: usize = 0;
-    while v < nodes {
+    for v in 0..nodes {
         slots[v] = free_slot(slots, edges, v);
-        v += 1;
     }
 }
 
 // For each node the slot that holds its table, and 0 beyond the last node and for more than 64 nodes.
+#[tactic(auto, using(crate::proofs::Found::too_many, crate::proofs::Found::all_given))]
 pub fn table_slots(edges: &[u32], nodes: usize) -> [u64; 64]
     ensures { result ≡ slots_in (edges_of edges.now) nodes }
 {

@@ -1,6 +1,6 @@
 -- The answer row: the columns of a slot added up, contents after contents, are the units at each miss count of the table that it stands for.
 use mathlib.Core.Path.{◌≡◌, refl, sym, ◌∙◌, subst}
-use mathlib.Core.Logic.{◌⊎◌, inr, ⊎_elim}
+use mathlib.Core.Logic.{◌⊎◌, ⊎_elim}
 use mathlib.Core.Bool.{cond}
 use mathlib.Core.List.{List}
 use Prim.Native.Nat.{ℕ, suc, ◌+◌, ◌-◌, ◌*◌, ◌^◌, ◌≤◌, ◌<◌}
@@ -19,38 +19,24 @@ use Rattle.rules.specs.Questions.{units_at, misses_of, counts_below}
 use Rattle.rules.proofs.Counts.{length_counts, counts_at}
 use Rattle.tight_rules.specs.Rows.{meaning}
 use Rattle.tight_rows.specs.Room.{Words, words_of, Leaves, slot_words}
-use Rattle.tight_rows.specs.Rows.{raised, replaced}
+use Rattle.tight_rows.specs.Rows.{raised}
 use Rattle.tight_rows.specs.Grid.{Grid, table_of, rows_of}
-use Rattle.tight_tables.specs.Answering.{row_column, column_to, Zeros}
+use Rattle.tight_tables.specs.Answering.{row_column, column_to}
 use Rattle.tight_rows.proofs.Cells.{units_at_where, where_most}
 use Rattle.tight_rows.proofs.Grids.{where_grid, sum_one, sum_none}
 use Rattle.tight_rows.proofs.Adding.{sum_part}
-use Rattle.tight_rows.proofs.Writing.{is_within_lem, within_cases, Written, as_before, one_more_lem}
+use Rattle.tight_rows.proofs.Writing.{within_cases}
 
 -- ---- places
 
 pub row_inside : (K W a k n : ℕ) → k < K → a + slot_words K W ≤ n → a + 4 + 2 * K + 2 * W + k * W + W ≤ n
 row_inside K W a k n l h = let rows : suc k * W ≤ K * W = mul-le-mul_right W l in omega (arith, rows)
 
-pub zeros_clear : (rs zs : List ℕ) → Leaves (λ w. replaced 0 (length rs) (λ j. 0) w) rs zs → Zeros zs
-zeros_clear rs zs h m l = h.word m (omega (arith, h.long)) ∙ rw (is_within_lem 0 (length rs) m (omega arith) (omega (arith, h.long))) refl
-
 -- ---- cell after cell
 
 -- what cell `to` + j has with that of the row at place `row` of the words v
 abbrev pub cells_more : ℕ → ℕ → Words → Words → ℕ → ℕ
 cells_more to row v w j = w (to + j) + v (row + j)
-
-module _ (to row n : ℕ) (v : Words) (rs zs : List ℕ) (j : ℕ) (l : j < n) (room : to + n ≤ length rs) where
-  -- the next cell is as it was
-  next_cell : Written to (cells_more to row v) j rs zs → words_of zs (to + j) ≡ words_of rs (to + j)
-  next_cell h = as_before to (cells_more to row v) j rs zs h (to + j) (omega arith) (inr (omega arith))
-
-  pub more_fits : ((i : ℕ) → i < n → words_of rs (to + i) + v (row + i) < 2 ^ 64) → Written to (cells_more to row v) j rs zs → words_of zs (to + j) + v (row + j) < 2 ^ 64
-  more_fits fits h = omega (arith, fits j l, next_cell h)
-
-  pub more_here : Written to (cells_more to row v) j rs zs → Written to (cells_more to row v) (j + 1) rs (set zs (to + j) (words_of zs (to + j) + v (row + j)))
-  more_here h = one_more_lem to (cells_more to row v) j rs zs _ h (omega arith) (omega (arith, next_cell h))
 
 -- ---- columns
 
@@ -80,9 +66,6 @@ module _ (g : Grid) where
   abbrev pub ColumnsIn : ℕ → List ℕ → List ℕ → Type 0
   ColumnsIn k rs zs = Leaves (λ _. column_to g k) rs zs
 
-  pub no_columns : (rs : List ℕ) → Zeros rs → ColumnsIn 0 rs rs
-  no_columns rs h = record { long = refl; word = h }
-
   -- the cells of one contents more fit
   pub cell_fits : (k : ℕ) (rs zs : List ℕ) → ColumnsIn k rs zs → k < g.count → g.base + g.width ≤ length rs → total (table_of g) ≤ whole
       → (j : ℕ) → j < g.width → words_of zs (g.base + j) + g.cell k j < 2 ^ 64
@@ -103,9 +86,6 @@ module _ (g : Grid) where
       inside m l p q =
           let here : g.base + (m - g.base) ≡ m = omega arith in
           rw (add-one k, here) (omega (arith, h.word m l, rw here at (column_cell k (m - g.base) (omega arith))))
-
-  pub all_columns : (k : ℕ) (rs zs : List ℕ) → k ≡ g.count → ColumnsIn k rs zs → ColumnsIn g.count rs zs
-  all_columns k rs zs e h = rw (← e) h
 
   -- whatever stood in the row before it was cleared
   pub columns_since : (k : ℕ) (ss rs zs : List ℕ) → length rs ≡ length ss → ColumnsIn k rs zs → ColumnsIn k ss zs

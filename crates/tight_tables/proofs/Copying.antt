@@ -31,7 +31,7 @@ use Rattle.tight_rows.proofs.Cells.{Test, Known, total_where, cell, is_cell, whe
 use Rattle.tight_rows.proofs.Grids.{row_where, where_grid, sum_none, grid_cell, grid_no_cell, every_cell, filled_of, grid_known}
 use Rattle.tight_rows.proofs.Adding.{sum_part}
 use Rattle.tight_rows.proofs.Writing.{is_within_lem, not_within, Written, as_before, one_more_lem}
-use Rattle.tight_rows.proofs.Raising.{raised_at, raised_beside, raised_none, raised_then, raised_one, live_part}
+use Rattle.tight_rows.proofs.Raising.{raised_at, raised_beside, raised_then, raised_one, live_part}
 use Rattle.tight_tables.proofs.Answering.{column_cell, column_beside}
 
 -- one of the first n contents has mask C, or none has
@@ -142,9 +142,6 @@ module _ (from to n : ℕ) (xs ys : List ℕ) (ok : WordsAddable from to n xs) (
       ap₂ ◌+◌ (as_before to (words_more from to) j xs ys h (to + j) (omega (arith, ok.room)) (inr (omega arith)))
       (as_before to (words_more from to) j xs ys h (from + j) (omega (arith, ok.inside)) (⊎_elim (λ p. inr (omega arith)) (λ p. inl (omega arith)) ok.apart))
 
-  pub words_fit : words_more from to (words_of ys) j < 2 ^ 64
-  words_fit = omega (arith, next_words, ok.fits j l)
-
   pub word_more : Written to (words_more from to) (j + 1) xs (set ys (to + j) (words_more from to (words_of ys) j))
   word_more = one_more_lem to (words_more from to) j xs ys _ h (omega (arith, ok.room)) next_words
 
@@ -168,9 +165,6 @@ module _ (o : Opening) (a L : ℕ) (xs : List ℕ) (ok : Copyable o a L xs) wher
   plan_there : o.plan + suc L ≤ length xs
   plan_there = let p = ok.placed in omega (arith, p.sums, p.goes, p.end, ok.low)
 
-  pub no_sums_yet : SumsTo o a L 0 xs xs
-  no_sums_yet = raised_none o.plan (suc L) (live_units L old 0) xs (λ j l. refl)
-
   -- what stands before the plan is as it was
   slot_same : (k : ℕ) (ys : List ℕ) → SumsTo o a L k xs ys → (p : ℕ) → p < o.plan → words_of ys p ≡ words_of xs p
   slot_same k ys h p l = raised_beside o.plan (suc L) (live_units L old k) xs ys h p (omega (arith, plan_there)) (inl l)
@@ -184,9 +178,6 @@ module _ (o : Opening) (a L : ℕ) (xs : List ℕ) (ok : Copyable o a L xs) wher
 
   -- what is read of contents k meanwhile
   module _ (k : ℕ) (l : k < old.count) (ys : List ℕ) (h : SumsTo o a L k xs ys) where
-    pub words_there : a + 4 + o.contents + k < length ys
-    words_there = omega (arith, h.long, slot_inside o a L xs ok, ok.neat.few)
-
     pub mask_read : bit_and (words_of ys (mask_at a k)) L ≡ shared (old.mask k) L
     unfolding shared
     mask_read = rw (slot_same k ys h (mask_at a k) (omega (arith, ok.before, ok.neat.few))) refl
@@ -265,9 +256,6 @@ module _ (o : Opening) (a L : ℕ) (xs : List ℕ) (may : Bringing o a L xs) whe
       part k m true false e = omega arith
       part k m false y e = omega arith
 
-  pub none_brought : Brought o a L 0 xs xs
-  none_brought = record { long = refl; cells = λ i j l m. omega arith; beside = λ p l c. refl }
-
   module _ (k : ℕ) (l : k < g.count) (ys : List ℕ) (h : Brought o a L k xs ys) where
     -- the row that they come to is the one before anything was added
     pub row_same : row_for o a L (words_of ys) k ≡ to k
@@ -275,11 +263,6 @@ module _ (o : Opening) (a L : ℕ) (xs : List ℕ) (may : Bringing o a L xs) whe
         let p = may.ok.placed in
         rw (h.beside (mask_at a k) (omega (arith, from_end, may.ok.neat.few)) (⊎_elim (λ q. inr (omega (arith, may.ok.neat.few))) (λ q. inl (omega (arith, may.ok.neat.few))) may.ok.apart))
         (h.beside (o.numbers + shared (g.mask k) L) (omega (arith, p.end, may.ok.low, live_part (g.mask k) L _ refl)) (inr (omega (arith, p.slot, p.sums, p.goes))))
-
-    pub place_ready : (a + 4 + k < length ys) × (o.numbers + L < length ys) × (b + slot_words K W ≤ length ys) × (row_for o a L (words_of ys) k < K)
-    place_ready =
-        let p = may.ok.placed in
-        (omega (arith, h.long, from_end, may.ok.neat.few), omega (arith, h.long, p.end, may.ok.low), omega (arith, h.long, slot_end), rw row_same (may.row k l))
 
     -- the row's words, and those that they are added to
     abbrev src : ℕ
@@ -356,6 +339,3 @@ module _ (o : Opening) (a L : ℕ) (xs : List ℕ) (may : Bringing o a L xs) whe
 
     pub row_brought : (d : ℕ) → d ≡ row_at K W b (row_for o a L (words_of ys) k) → (zs : List ℕ) → Leaves (λ w. replaced d g.width (words_more src d w) w) ys zs → Brought o a L (k + 1) xs zs
     row_brought d e zs s = one_brought zs (rw (e, row_same) at s)
-
-  pub all_brought : (k : ℕ) (ys : List ℕ) → k ≡ g.count → Brought o a L k xs ys → Brought o a L g.count xs ys
-  all_brought k ys e h = rw (← e) h

@@ -14,10 +14,8 @@ fn add_cells(res: &mut [u64], work: &[u64], row: usize, to: usize, width: usize)
     requires { (to + width ≤ length res.old) × (row + width ≤ length work.now) × ((j : ℕ) → j < width → words_of res.old (to + j) + words_of work.now (row + j) < 2 ^ 64) }
     ensures { Leaves (raised to width (λ j. words_of work.now (row + j))) res.old res.new }
 {
-    let mut j: usize = 0;
-    while j < width {
-        res[to + j] = res[to + j] + work[row + j];
-        j += 1;
+    for j in 0..width {
+        res[to + j] += work[row + j];
     }
 }
 
@@ -30,10 +28,8 @@ fn add_contents(res: &mut [u64], work: &[u64], slot: usize, contents: usize, cel
     let count = work[slot] as usize;
     let base = work[slot + 1] as usize;
     let width = work[slot + 2] as usize;
-    let mut k: usize = 0;
-    while k < count {
+    for k in 0..count {
         add_cells(res, work, rows + k * cells, base, width);
-        k += 1;
     }
 }
 
@@ -52,5 +48,5 @@ fn answer_row(
     let all = res.len();
     clear_row(res, 0, all);
     add_contents(res, work, slot, contents, cells);
-    res[longest] = res[longest] + work[slot + 3];
+    res[longest] += work[slot + 3];
 }

@@ -13,10 +13,8 @@ fn add_words(work: &mut [u64], from: usize, to: usize, width: usize)
     requires { WordsAddable from to width work.old }
     ensures { Leaves (λ w. replaced to width (words_more from to w) w) work.old work.new }
 {
-    let mut j: usize = 0;
-    while j < width {
-        work[to + j] = work[to + j] + work[from + j];
-        j += 1;
+    for j in 0..width {
+        work[to + j] += work[from + j];
     }
 }
 
@@ -26,16 +24,15 @@ fn sum_live(work: &mut [u64], o: Opening, from: usize, live: u64)
     ensures { Leaves (raised o.plan (suc live) (live_units live (grid_of o.contents o.cells from (words_of work.old)) (words_of work.old (count_at from)))) work.old work.new }
 {
     let count = work[from] as usize;
-    let mut k: usize = 0;
-    while k < count {
+    for k in 0..count {
         let mask = work[from + 4 + k] & live;
         let units = work[from + 4 + o.contents + k];
         add_units(work, o.plan, mask, units);
-        k += 1;
     }
 }
 
 // Where the row stands that contents `k` of the slot at `from` come to.
+#[tactic(auto, using(crate::proofs::Copying::rows_apart), unfolding(rules::specs::Contents::shared))]
 fn live_row(work: &[u64], o: Opening, from: usize, live: u64, k: usize) -> usize
     requires { (from + 4 + k < length work.now) × (o.numbers + live < length work.now) × (o.slot + slot_words o.contents o.cells ≤ length work.now) × (row_for o from live (words_of work.now) k < o.contents) }
     ensures { result ≡ row_at o.contents o.cells o.slot (row_for o from live (words_of work.now) k) }
@@ -53,10 +50,8 @@ fn add_live(work: &mut [u64], o: Opening, from: usize, live: u64)
     let count = work[from] as usize;
     let width = work[from + 2] as usize;
     let rows = from + 4 + 2 * o.contents + 2 * o.cells;
-    let mut k: usize = 0;
-    while k < count {
+    for k in 0..count {
         let to = live_row(work, o, from, live, k);
         add_words(work, rows + k * o.cells, to, width);
-        k += 1;
     }
 }

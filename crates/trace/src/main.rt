@@ -5,14 +5,12 @@
 use front::write_front;
 use std::env::{Env, FillError};
 use traces::{accesses_of_trace, damaged_of_trace};
-use writing::Written;
 
 // The accesses of a trace of up to 1,024 blocks, by way of `output`.
 fn tell_accesses(trace: &[u8], output: &mut [u8]) {
     let mut accesses: [u32; 128000] = [0; 128000];
-    match accesses_of_trace(trace, &mut accesses, output) {
-        Written::Bytes(n) => write_front(output, n),
-        Written::NoRoom => {}
+    if let Some(n) = accesses_of_trace(trace, &mut accesses, output) {
+        write_front(output, n);
     }
 }
 
@@ -27,9 +25,8 @@ fn with_output(trace: &[u8]) {
 fn tell_damaged(trace: &[u8]) {
     let mut places: [u64; 1024] = [0; 1024];
     let mut output: [u8; 21567] = [0; 21567];
-    match damaged_of_trace(trace, &mut places, &mut output) {
-        Written::Bytes(n) => write_front(&output, n),
-        Written::NoRoom => {}
+    if let Some(n) = damaged_of_trace(trace, &mut places, &mut output) {
+        write_front(&output, n);
     }
 }
 

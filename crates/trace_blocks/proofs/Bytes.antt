@@ -1,13 +1,13 @@
 -- Bytes from the front: weighed, and looked at whether all are zero.
-use mathlib.Core.Path.{◌≡◌}
-use mathlib.Core.Logic.{◌≢◌}
-use mathlib.Core.Bool.{Bool, true, false}
-use mathlib.Core.List.{List}
+use mathlib.Core.Path.{◌≡◌, refl, ap}
+use mathlib.Core.Bool.{◌&&◌}
+use mathlib.Core.List.{List, [], ◌∷◌}
 use Prim.Native.Nat.{ℕ, ◌+◌, ◌*◌, ◌≤◌, ◌<◌}
 use native.Mathlib.Numerals.{add-one}
 use native.Mathlib.Omega.{arith}
-use borrow.Author.Tests.{eq-eqb, ne_eqb}
+use lib.Dec.{eqb}
 use lib.ListN.{length, get_or, drop}
+use Rattle.std.specs.List.{list_all}
 use Rattle.basics.proofs.Lists.{list_next, list_end}
 use Rattle.trace_blocks.specs.Blocks.{weighed, all_zero}
 
@@ -26,15 +26,7 @@ module _ (bytes : List ℕ) (i sum w : ℕ) (rest : sum + weighed (i + 1) (drop 
 
 -- ---- all zero
 
-module _ (bytes : List ℕ) (i : ℕ) (w : Bool) (rest : all_zero (drop i bytes) ≡ w) where
-  pub zero_next : i < length bytes → get_or bytes i 0 ≡ 0 → all_zero (drop (i + 1) bytes) ≡ w
-  unfolding all_zero
-  zero_next h e = rw (eq-eqb (get_or bytes i 0) 0 e) at (list_next all_zero bytes i w rest 0 h)
-
-  pub zero_not : i < length bytes → get_or bytes i 0 ≢ 0 → false ≡ w
-  unfolding all_zero
-  zero_not h e = rw (ne_eqb (get_or bytes i 0) 0 e) at (list_next all_zero bytes i w rest 0 h)
-
-  pub zero_end : length bytes ≤ i → true ≡ w
-  unfolding all_zero
-  zero_end h = list_end all_zero bytes i w rest h
+pub all_zero_lem : (bytes : List ℕ) → list_all (λ x. eqb x 0) bytes ≡ all_zero bytes
+unfolding all_zero
+all_zero_lem [] = refl
+all_zero_lem (x ∷ xs) = ap (λ t. eqb x 0 && t) (all_zero_lem xs)

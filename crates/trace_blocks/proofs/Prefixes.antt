@@ -1,11 +1,13 @@
 -- A list filled from the front, one store a turn: what stands before a place, with what is still to come behind it, stays the same.
-use mathlib.Core.Path.{◌≡◌, refl, sym, ◌∙◌}
+use mathlib.Core.Path.{◌≡◌, ap}
 use mathlib.Core.List.{List, [], ◌∷◌, ◌++◌, append-nil, append_assoc}
-use Prim.Native.Nat.{ℕ, ◌+◌, ◌-◌, ◌≤◌, ◌<◌}
+use Prim.Native.Nat.{ℕ, ◌+◌, ◌-◌, ◌/◌, ◌%◌, ◌≤◌, ◌<◌}
 use native.Mathlib.Numerals.{add-one}
 use native.Mathlib.Omega.{arith}
-use lib.ListN.{length, set, take, drop, replicate, length-set, length-drop, drop_of_length-le}
-use lib.Seq.{append_snoc, take-suc-set, length-take-le}
+use lib.ListN.{length, set, take, drop, replicate, length-append, length-drop, drop_of_length-le}
+use lib.Seq.{append_snoc, take-suc-set, length-take-le, take_at}
+use Rattle.std.specs.Int.{w16, w32, to_le_bytes}
+use Rattle.trace_blocks.specs.Written.{pair_bytes, four_bytes}
 
 -- v is stored at place i, where it was the next to come
 pub stored_next : (xs rest w : List ℕ) (i v : ℕ) → i < length xs → take i xs ++ (v ∷ rest) ≡ w → take (i + 1) (set xs i v) ++ rest ≡ w
@@ -27,22 +29,23 @@ cleared_rest room ys i zeros =
     let none : drop (length room - i) (drop i room) ≡ [] = drop_of_length-le (drop i room) {i = length room - i} (omega arith) in
     rw (none, append-nil ys, zeros, part)
 
--- ---- two bytes stored, and four
+-- ---- a number's bytes stored
 
-pub two_stored : (b : List ℕ) (at p q : ℕ) → at + 2 ≤ length b → take (at + 2) (set (set b at p) (at + 1) q) ≡ take at b ++ (p ∷ q ∷ [])
-two_stored b at p q h =
-    let w : List ℕ = take at b ++ (p ∷ q ∷ []) in
-    let second : at + 2 ≡ at + 1 + 1 = omega arith in
-    let s = stored_next b (q ∷ []) w at p (omega arith) refl in
-    let t = stored_next (set b at p) [] w (at + 1) q (simp length-set (omega arith)) s in
-    rw second (sym (append-nil (take (at + 1 + 1) (set (set b at p) (at + 1) q))) ∙ t)
+-- the bytes zs put into a room at a place: what stands before their end
+pub part_stored : (b ys zs rest : List ℕ) (at n : ℕ) → ys ≡ zs → length zs ≡ n → at ≤ length b → take (at + n) (take at b ++ (ys ++ rest)) ≡ take at b ++ zs
+part_stored b ys zs rest at n e long h =
+    let size : length (take at b ++ zs) ≡ at + n = omega (arith, length-append (take at b) zs, length-take-le at b h, long) in
+    rw (e, ← append_assoc (take at b) zs rest) (take_at (take at b ++ zs) rest (at + n) size)
 
-pub four_stored : (b : List ℕ) (at p q r s : ℕ) → at + 4 ≤ length b
-    → take (at + 4) (set (set (set (set b at p) (at + 1) q) (at + 2) r) (at + 3) s) ≡ take at b ++ (p ∷ q ∷ r ∷ s ∷ [])
-four_stored b at p q r s h =
-    let c : List ℕ = set (set b at p) (at + 1) q in
-    let same : length c ≡ length b = simp length-set in
-    let two : at + 2 + 2 ≡ at + 4 = omega arith in
-    let one : at + 2 + 1 ≡ at + 3 = omega arith in
-    let t = two_stored c (at + 2) r s (omega arith) in
-    (rw (two, one) at t) ∙ rw (two_stored b at p q (omega arith), append_assoc (take at b) (p ∷ q ∷ []) (r ∷ s ∷ []))
+-- a number's bytes, the lowest first, are those of the definition
+pub pair_low_first : (x : ℕ) → x < 65536 → to_le_bytes w16 x ≡ pair_bytes x
+unfolding pair_bytes
+pair_low_first x h =
+    let high : x / 256 % 256 ≡ x / 256 = omega arith in
+    ap (λ n. x % 256 ∷ n ∷ []) high
+
+pub four_low_first : (x : ℕ) → x < 4294967296 → to_le_bytes w32 x ≡ four_bytes x
+unfolding four_bytes
+four_low_first x h =
+    let high : x / 16777216 % 256 ≡ x / 16777216 = omega arith in
+    ap (λ n. x % 256 ∷ x / 256 % 256 ∷ x / 65536 % 256 ∷ n ∷ []) high

@@ -60,26 +60,13 @@ pub fn access_in(block: &[u8], i: usize) -> u32
     four_at(block, 6 + i * 4)
 }
 
-// Every byte is zero.
-pub fn clear_bytes(bytes: &mut [u8])
-    ensures { bytes.new ≡ replicate (length bytes.old) 0 }
-{
-    let mut at: usize = 0;
-    while at < bytes.len() {
-        bytes[at] = 0;
-        at += 1;
-    }
-}
-
 // The accesses, four bytes each, from place 6 on.
 fn put_accesses(accesses: &[u32], block: &mut [u8])
     requires { (length accesses.now ≤ 125) × (length block.old ≡ 512) }
     ensures { take (6 + length accesses.now * 4) block.new ≡ take 6 block.old ++ fours_bytes accesses.now }
 {
-    let mut i: usize = 0;
-    while i < accesses.len() {
-        put_four(block, 6 + i * 4, accesses[i]);
-        i += 1;
+    for (i, access) in accesses.iter().enumerate() {
+        put_four(block, 6 + i * 4, *access);
     }
 }
 
@@ -91,7 +78,7 @@ fn write_head(accesses: &[u32], number: u32, block: &mut [u8])
     put_four(block, 0, number);
     put_pair(block, 4, accesses.len());
     put_accesses(accesses, block);
-    clear_bytes(&mut block[6 + accesses.len() * 4..]);
+    block[6 + accesses.len() * 4..].fill(0);
 }
 
 // The whole block: behind them the check.

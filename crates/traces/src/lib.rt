@@ -7,30 +7,30 @@ ghost use Rattle.writing.specs.Put.{Put};
 ghost use Rattle.writing.specs.Writing.{numbers_line};
 ghost use Rattle.traces.specs.Traces.{named_line, damaged_line, reading_text, listing_text, trace_bytes, accesses_told, damaged_told};
 
-use recorder::{Counted, Reading, list_damaged, read_trace};
-use writing::{Written, put_byte, put_entry, put_named, put_numbers_line, put_refused};
+use recorder::{Reading, list_damaged, read_trace};
+use writing::{put_byte, put_entry, put_named, put_numbers_line, put_refused};
 
 // The text of a trace's accesses, at the front of `output`; they go to `accesses`, as reading leaves them. Long enough is an output of 63
 // bytes and 21 for each access that there is room for.
-pub fn accesses_of_trace(trace: &[u8], accesses: &mut [u32], output: &mut [u8]) -> Written
+pub fn accesses_of_trace(trace: &[u8], accesses: &mut [u32], output: &mut [u8]) -> Option<usize>
     ensures { record { answer = result; room = accesses.new; output = output.new } ≡ accesses_told trace.now accesses.old output.old }
 {
     if !has_bytes(accesses.len(), output.len()) {
-        return Written::NoRoom;
+        return None;
     }
     let end = put_reading(trace, accesses, output);
-    Written::Bytes(end)
+    Some(end)
 }
 
 // The text of a trace's damaged blocks; their places go to `places`. Long enough is an output of 63 bytes and 21 for each place.
-pub fn damaged_of_trace(trace: &[u8], places: &mut [u64], output: &mut [u8]) -> Written
+pub fn damaged_of_trace(trace: &[u8], places: &mut [u64], output: &mut [u8]) -> Option<usize>
     ensures { record { answer = result; room = places.new; output = output.new } ≡ damaged_told trace.now places.old output.old }
 {
     if !has_bytes(places.len(), output.len()) {
-        return Written::NoRoom;
+        return None;
     }
     let end = put_listing(trace, places, output);
-    Written::Bytes(end)
+    Some(end)
 }
 
 // Whether `bytes` bytes are surely enough for the text where there is room for `numbers` numbers.
@@ -49,12 +49,12 @@ fn put_reading(trace: &[u8], accesses: &mut [u32], output: &mut [u8]) -> usize
     ensures accesses_after { accesses.new ≡ (trace_read trace.now accesses.old).room }
 {
     match read_trace(trace, accesses) {
-        Reading::Accesses(n) => {
+        Ok(Reading::Accesses(n)) => {
             let head = put_count(output, b"accesses ", n as u64);
             put_numbers_line(output, head, &accesses[..n])
         }
-        Reading::Damaged(place) => put_damaged(output, place as u64),
-        Reading::Refused(why) => put_refused(output, why.number()),
+        Ok(Reading::Damaged(place)) => put_damaged(output, place as u64),
+        Err(why) => put_refused(output, why.number()),
     }
 }
 
@@ -64,11 +64,11 @@ fn put_listing(trace: &[u8], places: &mut [u64], output: &mut [u8]) -> usize
     ensures places_after { places.new ≡ (trace_listed trace.now places.old).room }
 {
     match list_damaged(trace, places) {
-        Counted::Blocks(n) => {
+        Ok(n) => {
             let head = put_count(output, b"damaged ", n as u64);
             put_places(output, head, &places[..n])
         }
-        Counted::Refused(why) => put_refused(output, why.number()),
+        Err(why) => put_refused(output, why.number()),
     }
 }
 
@@ -94,10 +94,8 @@ fn put_places(room: &mut [u8], at: usize, places: &[u64]) -> usize
     ensures { Put (numbers_line places.now) at result room.old room.new }
 {
     let mut end = at;
-    let mut i: usize = 0;
-    while i < places.len() {
-        end = put_entry(room, end, places[i], i + 1 == places.len());
-        i += 1;
+    for (i, place) in places.iter().enumerate() {
+        end = put_entry(room, end, *place, i + 1 == places.len());
     }
     end
 }

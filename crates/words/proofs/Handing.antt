@@ -1,25 +1,16 @@
--- Words handed over: word by word into a room of zeros they are the words with zeros behind them.
-use mathlib.Core.Path.{◌≡◌, refl, sym, ap, ap₂, ◌∙◌}
-use mathlib.Core.Bool.{Bool, true, false, ◌&&◌}
+-- Words handed over into a room of zeros: they are the words with zeros behind them.
+use mathlib.Core.Path.{◌≡◌, sym, ap, ap₂, ◌∙◌}
+use mathlib.Core.Bool.{true}
 use mathlib.Core.List.{List, ◌++◌}
-use Prim.Native.Nat.{ℕ, ◌+◌, ◌-◌, ◌≤◌, ◌<◌}
+use Prim.Native.Nat.{ℕ, ◌+◌, ◌-◌, ◌≤◌}
 use native.Mathlib.Nat.{zero-add}
-use native.Mathlib.Numerals.{add-one}
 use native.Mathlib.Omega.{arith}
-use borrow.Author.Tests.{leb-true, leb-false, le-leb, lt-leb}
+use borrow.Author.Tests.{leb-true, le-leb}
 use lib.Dec.{leb}
-use lib.ListN.{length, get_or, set, take, drop, replicate, length-drop, length-replicate, replicate-append-replicate}
-use lib.Seq.{paste, paste-suc, get_or-drop, drop_at}
-use Rattle.basics.proofs.Bools.{both, and_left, and_right}
+use lib.ListN.{length, take, drop, replicate, length-replicate, replicate-append-replicate}
+use lib.Seq.{paste, drop_at}
+use Rattle.basics.proofs.Bools.{both, and_left}
 use Rattle.words.specs.Handing.{goes_over, handed_over}
-
--- one word more is carried
-pub carry_turn : (ws vs us us' : List ℕ) (from i : ℕ) → i < length ws → from + i < length vs → us ≡ paste ws 0 (drop from vs) i → us' ≡ set us i (get_or vs (from + i) 0)
-    → us' ≡ paste ws 0 (drop from vs) (i + 1)
-carry_turn ws vs us us' from i l k p q =
-    q ∙ rw (add-one i, p, ← get_or-drop from vs i 0)
-    (ap (λ (k : ℕ). set (paste ws 0 (drop from vs) i) k (get_or (drop from vs) i 0)) (sym (zero-add i))
-    ∙ paste-suc ws 0 (drop from vs) i 0 (omega arith) (omega (arith, length-drop from vs)))
 
 -- zeros behind what was written over zeros
 pub zeros_rest : (n k : ℕ) → k ≤ n → drop {A = ℕ} k (replicate n 0) ≡ replicate (n - k) 0
@@ -30,22 +21,6 @@ zeros_rest n k l =
     all : n ≡ k + (n - k)
     all = omega arith
 
--- the tests that the code makes, with no sum that could be too large: a room of k words, a result of r
-module _ (r k p n : ℕ) where
-  pub room_short : k < n → goes_over r k p n ≡ false
-  room_short l = go (leb n r)
-    where
-      go : (b : Bool) → (b && leb (p + n) k) ≡ false
-      go true = lt-leb (p + n) k (omega arith)
-      go false = refl
-
-  pub goes_test : n ≤ r → n ≤ k → leb p (k - n) ≡ goes_over r k p n
-  goes_test l m = rw (le-leb n r l) (go (leb p (k - n)) refl)
-    where
-      go : (b : Bool) → leb p (k - n) ≡ b → b ≡ leb (p + n) k
-      go true h = sym (le-leb (p + n) k (omega (arith, leb-true p (k - n) h)))
-      go false h = sym (lt-leb (p + n) k (omega (arith, leb-false p (k - n) h)))
-
 -- n words of ws from place p on, and what they become in a result of the length of rs
 module _ (rs ws : List ℕ) (p n : ℕ) where
   -- they fit
@@ -53,11 +28,8 @@ module _ (rs ws : List ℕ) (p n : ℕ) where
   goes l k = both (leb n (length rs)) (leb (p + n) (length ws)) (le-leb _ _ l) (le-leb _ _ k)
 
   -- and where they do
-  pub fit_result : goes_over (length rs) (length ws) p n ≡ true → n ≤ length rs
+  fit_result : goes_over (length rs) (length ws) p n ≡ true → n ≤ length rs
   fit_result h = leb-true n (length rs) (and_left (leb n (length rs)) (leb (p + n) (length ws)) h)
-
-  pub fit_room : goes_over (length rs) (length ws) p n ≡ true → p + n ≤ length ws
-  fit_room h = leb-true (p + n) (length ws) (and_right (leb n (length rs)) (leb (p + n) (length ws)) h)
 
   pub hands_over : goes_over (length rs) (length ws) p n ≡ true → (zs us : List ℕ) → zs ≡ replicate (length rs) 0 → us ≡ paste zs 0 (drop p ws) n
       → us ≡ handed_over rs ws p n

@@ -37,27 +37,12 @@ pub fn state_at(words: &[u64], at: usize) -> State
     }
 }
 
-// Every word is zero.
-pub fn clear(words: &mut [u64])
-    ensures { words.new ≡ replicate (length words.old) 0 }
-{
-    let mut at: usize = 0;
-    while at < words.len() {
-        words[at] = 0;
-        at += 1;
-    }
-}
-
 // The first `n` words of the result are those of the working room from word `from` on.
 fn carry(res: &mut [u64], work: &[u64], from: usize, n: usize)
     requires { (n ≤ length res.old) × (from + n ≤ length work.now) }
     ensures { res.new ≡ paste res.old 0 (drop from work.now) n }
 {
-    let mut i: usize = 0;
-    while i < n {
-        res[i] = work[from + i];
-        i += 1;
-    }
+    res[..n].copy_from_slice(&work[from..from + n]);
 }
 
 // Whether a room of `room` words has `n` words from word `from` on, and a result of `res` words has room for them.
@@ -82,9 +67,9 @@ pub fn hand_over(res: &mut [u64], work: &mut [u64], from: usize, n: usize)
     if !goes_over(res.len(), work.len(), from, n) {
         return;
     }
-    clear(res);
+    res.fill(0);
     carry(res, work, from, n);
-    clear(work);
+    work.fill(0);
 }
 
 // The state at place `place` of a best case's table; past the end there is none, with 0 units.

@@ -4,7 +4,7 @@ use case_questions::in_cycles::every_core;
 use case_questions::in_misses::every_question;
 use case_text::plus;
 use case_text::report::Report;
-use case_text::said::{amount_said, count_said, time_said};
+use case_text::said::count_said;
 use case_text::shown::{end_line, say_number};
 use questions::{above_cycles_in, above_in, smallest_budget_in, smallest_cycles_in, spread_in};
 
@@ -37,23 +37,16 @@ fn say_budgets(name: &[u8], res: &[u64], n: usize) {
 // The units above each budget up to the last count.
 fn say_above(name: &[u8], res: &[u64], n: usize, last: u64) {
     begin(name, b" above");
-    let end = plus(last, 1);
-    let mut b: u64 = 0;
-    while b < end {
-        say_number(amount_said(above_in(res, n, b)).value);
-        b += 1;
+    for budget in 0..plus(last, 1) {
+        say_number(count_said(above_in(res, n, budget).map(|units| units.0)).value);
     }
     end_line();
 }
 
 fn say_spread(name: &[u8], room: &[u64], last: u64) {
     begin(name, b" spread");
-    let mut i: usize = 0;
-    while i < room.len() {
-        if i as u64 <= last {
-            say_number(room[i]);
-        }
-        i += 1;
+    for units in room.iter().take(plus(last, 1) as usize) {
+        say_number(*units);
     }
     end_line();
 }
@@ -69,10 +62,10 @@ fn say_answers(name: &[u8], res: &[u64], n: usize) {
 // The units above 40 cycles, a number for each core.
 fn say_above_cycles(name: &[u8], res: &[u64], n: usize, longest: u64) {
     begin(name, b" above 40 cycles:");
-    let mut core: usize = 0;
-    while core < 12 {
-        say_number(amount_said(above_cycles_in(res, n, core, longest, 40)).value);
-        core += 1;
+    for core in 0..12 {
+        say_number(
+            count_said(above_cycles_in(res, n, core, longest, 40).map(|units| units.0)).value,
+        );
     }
     end_line();
 }
@@ -82,10 +75,8 @@ fn say_cycle_budgets(name: &[u8], res: &[u64], n: usize, longest: u64, units: u6
     begin(name, b" cycles for at most");
     say_number(units);
     io::write_all(1, b" above:");
-    let mut core: usize = 0;
-    while core < 12 {
-        say_number(time_said(smallest_cycles_in(res, n, core, longest, units)).value);
-        core += 1;
+    for core in 0..12 {
+        say_number(count_said(smallest_cycles_in(res, n, core, longest, units)).value);
     }
     end_line();
 }

@@ -1,12 +1,13 @@
 // The calls on the lists of a graph's line. Its first field has the cache and the limit.
 use best::analyse_best;
 use case_text::fields::{copy_small, field_of, list_of, number, small};
-use case_text::said::{Said, refusal_said, value_said};
+use case_text::said::{Said, count_said};
 use estimate::{analyse, analyse_paired};
 use longest::longest_path;
-use rules::{BestOutcome, Cache, Length, Outcome, Start};
+use rules::{Cache, Finished, Refusal, Start};
 
-// An answer in numbers: a refusal's number, or 0 with the number of states and the set-aside count.
+// An answer in numbers: a refusal's number, or 0 with the number of states and the set-aside count. Kept as numbers, as a line of the cases tells them: each is a
+// comparison of its own, which the programs count.
 #[derive(Clone, Copy)]
 pub(crate) struct Got {
     pub refusal: u64,
@@ -22,45 +23,37 @@ fn refused(refusal: u64) -> Got {
     }
 }
 
-fn got_of(outcome: Outcome) -> Got {
+fn got_of(outcome: Result<Finished, Refusal>) -> Got {
     match outcome {
-        Outcome::Finished(states, aside) => Got {
+        Ok(Finished { states, aside }) => Got {
             refusal: 0,
             states,
             aside: aside.0,
         },
-        Outcome::Refused(why) => refused(why.number()),
+        Err(why) => refused(why.number()),
     }
 }
 
 // The same of the best case, which sets nothing aside.
-fn got_of_best(outcome: BestOutcome) -> Got {
+fn got_of_best(outcome: Result<usize, Refusal>) -> Got {
     match outcome {
-        BestOutcome::Finished(states) => Got {
+        Ok(states) => Got {
             refusal: 0,
             states,
             aside: 0,
         },
-        BestOutcome::Refused(why) => refused(why.number()),
+        Err(why) => refused(why.number()),
     }
-}
-
-// How the cache is found: 1 says that it was used.
-fn found(used: u64) -> Start {
-    if used == 1 {
-        return Start::Warm;
-    }
-    Start::Cold
 }
 
 // The cache of a line.
 fn cache_of(line: &[u64]) -> Cache {
-    let start = found(number(line, 1, 4));
+    let used = number(line, 1, 4) == 1;
     Cache {
         sets: small(number(line, 1, 0)),
         ways: small(number(line, 1, 1)),
         revision: small(number(line, 1, 2)),
-        start,
+        start: Start::from(used),
     }
 }
 
@@ -68,18 +61,11 @@ fn limit_of(line: &[u64]) -> u32 {
     small(number(line, 1, 3))
 }
 
-fn length_said(answer: Length) -> Said {
-    match answer {
-        Length::Accesses(accesses) => value_said(accesses),
-        Length::Refused(why) => refusal_said(why),
-    }
-}
-
 // The longest path. The numbers of the lists are 32 bits.
 pub(crate) fn path_of(line: &[u64]) -> Said {
     let mut list: [u32; 4352] = [0; 4352];
     copy_small(line, &mut list);
-    length_said(longest_path(
+    count_said(longest_path(
         cache_of(line),
         limit_of(line),
         list_of(line, &list, 2),

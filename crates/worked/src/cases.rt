@@ -30,6 +30,7 @@ fn line_of(text: &[u8], from: usize, line: &mut [u64], report: Report) -> Report
 pub(crate) fn all_cases(text: &[u8], line: &mut [u64], report: Report) -> Report {
     let mut all = report;
     let mut from: usize = 0;
+    // Kept as a while: a line ends where `next_line` finds its end, and no index counts the lines.
     while from < text.len() {
         all = line_of(text, from, line, all);
         from = next_line(text, from);

@@ -9,20 +9,13 @@ use case_text::fields::field_of;
 use case_text::report::Report;
 use case_text::rooms::{has_only, mark};
 use case_text::shown::{say, say_answer};
-use rules::{HitCount, MissCount};
+use rules::Refusal;
 
 // The largest count that is there and one more; 0 where the spread is refused.
-fn counts_of_misses(answer: MissCount) -> usize {
+fn counts_of(answer: Result<u64, Refusal>) -> usize {
     match answer {
-        MissCount::Largest(most) => behind(most.0),
-        MissCount::Refused(_) => 0,
-    }
-}
-
-fn counts_of_hits(answer: HitCount) -> usize {
-    match answer {
-        HitCount::Largest(most) => behind(most.0),
-        HitCount::Refused(_) => 0,
+        Ok(most) => behind(most),
+        Err(_) => 0,
     }
 }
 
@@ -44,10 +37,10 @@ fn compare_field(numbers: &[u64], room: &[u64], counts: usize, report: Report) -
 fn compare_spreads(table: &[u64], states: usize, line: &[u64], report: Report) -> Report {
     let mut room: [u64; 12] = [0; 12];
     mark(&mut room);
-    let misses = counts_of_misses(miss_spread_in(table, states, &mut room));
+    let misses = counts_of(miss_spread_in(table, states, &mut room).map(|misses| misses.0));
     let held = compare_field(field_of(line, 9), &room, misses, report);
     mark(&mut room);
-    let hits = counts_of_hits(hit_spread_in(table, states, &mut room));
+    let hits = counts_of(hit_spread_in(table, states, &mut room).map(|hits| hits.0));
     compare_field(field_of(line, 10), &room, hits, held)
 }
 

@@ -97,14 +97,8 @@ fn say_state(mask: u64, misses: u64, units: u64) {
 
 // The first `states` states of a room; those that the room cannot hold are not written.
 fn say_states(room: &[u64], states: usize) {
-    let held = room.len() / 5;
-    let mut i: usize = 0;
-    while i < held {
-        if states <= i {
-            return;
-        }
-        say_state(room[i * 5], room[i * 5 + 1], room[i * 5 + 4]);
-        i += 1;
+    for state in room.chunks_exact(5).take(states) {
+        say_state(state[0], state[1], state[4]);
     }
 }
 

@@ -7,20 +7,25 @@ use case_text::fields::{copy_small, count, field_of, list_of, number};
 use case_text::report::Report;
 use case_text::rooms::{first, has_only, is_cleared, is_left, mark};
 use case_text::shown::say_answer;
-use nightly::{Built, build};
+use nightly::build;
+use rules::Refusal;
 
 // The answer and the report; a refusal has none.
-fn compare_built(answer: Built, line: &[u64], report: Report) -> Report {
+fn compare_built(
+    answer: Result<night_rows::Report, Refusal>,
+    line: &[u64],
+    report: Report,
+) -> Report {
     let expected = number(line, 1, 3);
     match answer {
-        Built::Refused(why) => {
+        Err(why) => {
             let refusal = why.number();
             say_answer(refusal);
             report
                 .compared(refusal == expected)
                 .compared(count(line, 4) == 0)
         }
-        Built::Report(found) => {
+        Ok(found) => {
             say_answer(0);
             let words: [u64; 8] = [
                 found.accepted,
@@ -40,7 +45,13 @@ fn compare_built(answer: Built, line: &[u64], report: Report) -> Report {
 }
 
 // The answer, and both rooms.
-fn compare(built: Built, line: &[u64], rows: &[u64], work: &[u64], report: Report) -> Report {
+fn compare(
+    built: Result<night_rows::Report, Refusal>,
+    line: &[u64],
+    rows: &[u64],
+    work: &[u64],
+    report: Report,
+) -> Report {
     let answer = number(line, 1, 3);
     compare_built(built, line, report)
         .compared(is_left(answer, rows, field_of(line, 3)))

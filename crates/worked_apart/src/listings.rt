@@ -5,11 +5,13 @@
 // where the answer is 0 or the number of a refusal. Before the call every number of the rooms is 7, and after it every one of them is compared.
 use case_text::fields::{copy_small, count, list_of, number, small};
 use case_text::report::Report;
-use case_text::rooms::first_numbers;
+use case_text::rooms::first;
 use case_text::shown::say;
-use listing::{Expansion, expand};
+use listing::{GraphSize, expand};
+use rules::Refusal;
 
-// What a call answered, in numbers: a refusal's number and nothing else, or 0 and how many nodes, accesses and edges there are.
+// What a call answered, in numbers: a refusal's number and nothing else, or 0 and how many nodes, accesses and edges there are. Kept as numbers, as a line of the
+// cases tells them: each is a comparison of its own, which the programs count.
 #[derive(Clone, Copy)]
 struct Size {
     refusal: u64,
@@ -18,15 +20,15 @@ struct Size {
     edges: usize,
 }
 
-fn size_said(answer: Expansion) -> Size {
+fn size_said(answer: Result<GraphSize, Refusal>) -> Size {
     match answer {
-        Expansion::Graph(nodes, accesses, edges) => Size {
+        Ok(size) => Size {
             refusal: 0,
-            nodes,
-            accesses,
-            edges,
+            nodes: size.nodes,
+            accesses: size.accesses,
+            edges: size.edges,
         },
-        Expansion::Refused(why) => Size {
+        Err(why) => Size {
             refusal: why.number(),
             nodes: 0,
             accesses: 0,
@@ -67,14 +69,9 @@ pub(crate) fn holds(line: &[u64], field: usize, room: &[u32], rest: u32) -> bool
     if room.len() < count(line, field) {
         return false;
     }
-    let mut i: usize = 0;
-    while i < room.len() {
-        if room[i] != number_or(line, field, i, rest) {
-            return false;
-        }
-        i += 1;
-    }
-    true
+    room.iter()
+        .enumerate()
+        .all(|(i, found)| *found == number_or(line, field, i, rest))
 }
 
 // What is behind the numbers that a call leaves: zeros; or what stood in the room before, after a refusal.
@@ -109,9 +106,9 @@ pub(crate) fn listing_line(line: &[u64], report: Report) -> Report {
     let mut run_room: [u32; 65] = [7; 65];
     let mut access_room: [u32; 4097] = [7; 4097];
     let mut edge_room: [u32; 4033] = [7; 4033];
-    let runs = first_numbers(&mut run_room, number(line, 1, 0));
-    let accesses = first_numbers(&mut access_room, number(line, 1, 1));
-    let edges = first_numbers(&mut edge_room, number(line, 1, 2));
+    let runs = first(&mut run_room, number(line, 1, 0));
+    let accesses = first(&mut access_room, number(line, 1, 1));
+    let edges = first(&mut edge_room, number(line, 1, 2));
     let size = expanded(line, runs, accesses, edges);
     say_size(size);
     compare(line, size, runs, accesses, edges, report)

@@ -13,66 +13,46 @@
 use crate::listings::{holds, rest_of};
 use case_text::fields::{copy_small, count, field_of, list_of, number};
 use case_text::report::Report;
-use case_text::rooms::{first, first_numbers, is_left, mark};
+use case_text::rooms::{first, is_left, mark};
 use case_text::said::{Said, refusal_said, value_said};
 use case_text::shown::{say, say_answer};
-use recorder::{Counted, Reading, list_damaged, read_trace, write_trace};
+use recorder::{Reading, list_damaged, read_trace, write_trace};
+use rules::Refusal;
 
-fn blocks_said(answer: Counted) -> Said {
+fn blocks_said(answer: Result<usize, Refusal>) -> Said {
     match answer {
-        Counted::Blocks(blocks) => value_said(blocks as u64),
-        Counted::Refused(why) => refusal_said(why),
+        Ok(blocks) => value_said(blocks as u64),
+        Err(why) => refusal_said(why),
     }
 }
 
 // A damaged block is refused with 13, and the value is its place.
-fn reading_said(answer: Reading) -> Said {
+fn reading_said(answer: Result<Reading, Refusal>) -> Said {
     match answer {
-        Reading::Accesses(accesses) => value_said(accesses as u64),
-        Reading::Damaged(place) => Said {
+        Ok(Reading::Accesses(accesses)) => value_said(accesses as u64),
+        Ok(Reading::Damaged(place)) => Said {
             refusal: 13,
             value: place as u64,
         },
-        Reading::Refused(why) => refusal_said(why),
-    }
-}
-
-fn fill_bytes(room: &mut [u8], with: u8) {
-    let mut i: usize = 0;
-    while i < room.len() {
-        room[i] = with;
-        i += 1;
+        Err(why) => refusal_said(why),
     }
 }
 
 // Whether each byte from place `from` on is `value`.
 fn bytes_are(room: &[u8], from: usize, value: u8) -> bool {
-    let mut i = from;
-    while i < room.len() {
-        if room[i] != value {
-            return false;
-        }
-        i += 1;
-    }
-    true
+    room.iter().skip(from).all(|byte| *byte == value)
 }
 
 fn put_byte(trace: &mut [u8], at: u64, byte: u64) {
-    let place = at as usize;
-    if place < trace.len() {
-        if byte < 256 {
-            trace[place] = byte as u8;
-        }
+    if let (Some(place), Ok(byte)) = (trace.get_mut(at as usize), u8::try_from(byte)) {
+        *place = byte;
     }
 }
 
 // The bytes of a line, at their places.
 fn put_bytes(trace: &mut [u8], line: &[u64]) {
-    let n = count(line, 1) / 2;
-    let mut i: usize = 0;
-    while i < n {
-        put_byte(trace, number(line, 1, i * 2), number(line, 1, i * 2 + 1));
-        i += 1;
+    for pair in field_of(line, 1).chunks_exact(2) {
+        put_byte(trace, pair[0], pair[1]);
     }
 }
 
@@ -105,7 +85,7 @@ fn compare_made(line: &[u64], said: Said, trace: &[u8], report: Report) -> Repor
 }
 
 fn made(line: &[u64], trace: &mut [u8], report: Report) -> Report {
-    fill_bytes(trace, 7);
+    trace.fill(7);
     let said = write_list(trace, line);
     compare_made(line, said, trace, report)
 }
@@ -125,7 +105,7 @@ fn compare_got(line: &[u64], said: Said, room: &[u32], report: Report) -> Report
 
 fn got(line: &[u64], trace: &[u8], report: Report) -> Report {
     let mut accesses: [u32; 400] = [7; 400];
-    let room = first_numbers(&mut accesses, number(line, 4, 0));
+    let room = first(&mut accesses, number(line, 4, 0));
     let said = reading_said(read_trace(trace, room));
     say_answer(said.refusal);
     compare_got(line, said, room, report)
@@ -154,16 +134,12 @@ fn damaged(line: &[u64], trace: &[u8], report: Report) -> Report {
         .compared(is_left(answer, places, field_of(line, 3)))
 }
 
-fn wide(byte: u8) -> u64 {
-    byte as u64
-}
-
 // The byte at place `at`, and no byte past the end.
 fn byte_at(trace: &[u8], at: usize) -> u64 {
-    if at < trace.len() {
-        return wide(trace[at]);
+    match trace.get(at) {
+        Some(byte) => u64::from(*byte),
+        None => 256,
     }
-    256
 }
 
 fn shown(line: &[u64], trace: &[u8], report: Report) -> Report {
@@ -185,7 +161,7 @@ fn looked(kind: u8, line: &[u64], trace: &[u8], report: Report) -> Report {
 // A line about these bytes of the trace.
 fn trace_in(kind: u8, line: &[u64], trace: &mut [u8], report: Report) -> Report {
     if kind == b'n' {
-        fill_bytes(trace, 0);
+        trace.fill(0);
         write_list(trace, line);
         return report;
     }

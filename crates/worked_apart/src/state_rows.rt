@@ -9,11 +9,11 @@
 use case_questions::expected::last_count;
 use case_questions::in_cycles::{above, budget, every_core, refused};
 use case_questions::in_misses::{every_question, spread};
-use case_text::fields::{count, number};
+use case_text::fields::{field_of, number};
 use case_text::plus;
 use case_text::report::Report;
 use case_text::rooms::first;
-use case_text::said::{amount_said, count_said, time_said};
+use case_text::said::count_said;
 use case_text::shown::{say, say_answer};
 use questions::{above_cycles_in, above_in, smallest_budget_in, smallest_cycles_in};
 
@@ -43,7 +43,7 @@ fn row_in_cycles(words: &[u64], n: usize, answer: u64, report: Report) -> Report
 
 // Every question about the first `n` states of `words` is refused with `answer`, in long room and in none.
 fn row_refused(words: &[u64], n: usize, answer: u64, report: Report) -> Report {
-    let units = amount_said(above_in(words, n, 0));
+    let units = count_said(above_in(words, n, 0).map(|units| units.0));
     let misses = count_said(smallest_budget_in(words, n, 0));
     let asked = report
         .compared(units.refusal == answer)
@@ -65,27 +65,21 @@ fn row(words: &[u64], n: usize, answer: u64, report: Report) -> Report {
 // The row of a line, for each of its counts.
 pub(crate) fn row_line(line: &[u64], words: &[u64], report: Report) -> Report {
     let answer = number(line, 1, 0);
-    let said = amount_said(above_in(words, number(line, 2, 0) as usize, 0));
+    let said = count_said(above_in(words, number(line, 2, 0) as usize, 0).map(|units| units.0));
     say_answer(said.refusal);
     let mut all = report;
-    let counts = count(line, 2);
-    let mut i: usize = 0;
-    while i < counts {
-        all = row(words, number(line, 2, i) as usize, answer, all);
-        i += 1;
+    for n in field_of(line, 2) {
+        all = row(words, *n as usize, answer, all);
     }
     all
 }
 
 // A state at each mask from 0 on, with as many misses: 2^42 units each, and half of that from place `halves` on.
 fn ladder(words: &mut [u64], halves: usize) {
-    let n = words.len() / 5;
-    let mut i: usize = 0;
-    while i < n {
-        words[i * 5] = i as u64;
-        words[i * 5 + 1] = i as u64;
-        words[i * 5 + 4] = step_units(i, halves);
-        i += 1;
+    for (i, state) in words.chunks_exact_mut(5).enumerate() {
+        state[0] = i as u64;
+        state[1] = i as u64;
+        state[4] = step_units(i, halves);
     }
 }
 
@@ -113,7 +107,7 @@ pub(crate) fn time_line(line: &[u64], words: &[u64], report: Report) -> Report {
     let core = number(line, 1, 0) as usize;
     let longest = number(line, 1, 1);
     let answer = number(line, 1, 2);
-    let said = amount_said(above_cycles_in(words, n, core, longest, 0));
+    let said = count_said(above_cycles_in(words, n, core, longest, 0).map(|units| units.0));
     say_answer(said.refusal);
     if answer == 0 {
         let units = above(words, n, core, longest, 0, report);
@@ -127,7 +121,7 @@ pub(crate) fn allowed_line(line: &[u64], words: &[u64], report: Report) -> Repor
     let core = number(line, 1, 0) as usize;
     let longest = number(line, 1, 1);
     let units = number(line, 1, 2);
-    let said = time_said(smallest_cycles_in(words, words.len() / 5, core, longest, units));
+    let said = count_said(smallest_cycles_in(words, words.len() / 5, core, longest, units));
     io::write_all(1, b"cycles: at most ");
     io::print_decimal(1, units);
     say(b" above: ", said.value);

@@ -1,11 +1,10 @@
 -- Text put into lent room. A piece behind another is their text in one, whether they fit or not, so that nothing has to be shown of room between them; and a text that fits
--- is whole, at the front of the room. Then the numbers of a line, put one by one.
+-- is whole, at the front of the room. Then bytes, and the numbers of a line, put one by one.
 use mathlib.Core.Path.{◌≡◌, refl, sym, ap, subst, ◌∙◌}
 use mathlib.Core.Bool.{Bool}
 use mathlib.Core.List.{List, [], ◌∷◌, ◌++◌, append_assoc}
 use Prim.Native.Nat.{ℕ, suc, ◌+◌, ◌*◌, ◌≤◌, ◌<◌}
 use native.Mathlib.Nat.{add-zero, zero-add}
-use native.Mathlib.Numerals.{add-one}
 use native.Mathlib.Omega.{arith}
 use borrow.Author.Tests.{lt-ltb, le-ltb, eqb-true, eq-eqb}
 use lib.Dec.{eqb}
@@ -79,19 +78,14 @@ pub leaves_none : (whole : List ℕ) (e at : ℕ) (o o₁ : List ℕ) → Leaves
 unfolding with_bytes
 leaves_none whole e at o o₁ left = left
 
--- ---- a byte
+-- ---- bytes
 
-module _ (b at : ℕ) (o : List ℕ) where
-  pub byte_put : at < length o → Put (b ∷ []) at (at + 1) o (set o at b)
-  unfolding with_bytes
-  byte_put l = rw (add-one at, lt-ltb at (length o) l)
+-- one that there is no room for is left out, and the text ends where it ended
+pub byte_left_out : (b at : ℕ) (o : List ℕ) → length o ≤ at → Put (b ∷ []) at at o o
+unfolding with_bytes
+byte_left_out b at o l = rw (le-ltb at (length o) l)
 
-  -- there is no room for it
-  pub byte_left_out : length o ≤ at → Put (b ∷ []) at at o o
-  unfolding with_bytes
-  byte_left_out l = rw (le-ltb at (length o) l)
-
--- bytes one by one: those from place i on are left
+-- one by one: those from place i on are left
 module _ (bs : List ℕ) (i e at : ℕ) (o o₁ : List ℕ) (left : Leaves (drop i bs) e o₁ bs at o) where
   pub bytes_less : i < length bs → (e₂ : ℕ) (o₂ : List ℕ) → Put (get_or bs i 0 ∷ []) e e₂ o₁ o₂ → Leaves (drop (i + 1) bs) e₂ o₂ bs at o
   bytes_less more e₂ o₂ next = leaves_less _ _ _ e at e₂ o o₁ o₂ (list_next (λ cs. with_bytes cs (record { end = e; room = o₁ })) bs i _ left 0 more) next

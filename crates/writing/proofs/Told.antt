@@ -7,12 +7,9 @@ use native.Mathlib.Omega.{arith}
 use borrow.Author.Tests.{leb-true}
 use lib.Dec.{leb}
 use lib.ListN.{length, take, replicate, length-append, length-map}
+use Rattle.std.specs.Prelude.{Option, Some, None, Err, Ok}
 use Rattle.basics.proofs.Bools.{and_right}
-use Rattle.rules.specs.declared.Verdict.{Verdict}
-use Rattle.rules.specs.declared.Verdict.TheVariants.{Accepted, Refused}
-use Rattle.rules.specs.Answers.{number_of}
-use Rattle.reading.specs.declared.Read.{Read}
-use Rattle.reading.specs.declared.Read.TheVariants.{Numbers, Nothing}
+use Rattle.rules.specs.Answers.{number_of, Verdict}
 use Rattle.reading.specs.Reading.{value_from, words_from, all_numbers, well_formed, numbers_in}
 use Rattle.reading.specs.Call.{after_reading}
 use Rattle.reading.proofs.Calls.{malformed, well_formed_lem, how_many, numbers_there}
@@ -22,16 +19,16 @@ use Rattle.writing.proofs.Decimals.{decimal_long}
 
 -- ---- a text is malformed, or read
 
-module _ (text room : List ℕ) (long : 16384 ≤ length room) (r : Read) (room' : List ℕ) (left : record { answer = r; room = room' } ≡ after_reading text room) where
-  pub text_malformed : (of : List ℕ → List ℕ) → r ≡ Nothing → refused_line 9 ≡ of_text of text
+module _ (text room : List ℕ) (long : 16384 ≤ length room) (r : Option ℕ) (room' : List ℕ) (left : record { answer = r; room = room' } ≡ after_reading text room) where
+  pub text_malformed : (of : List ℕ → List ℕ) → r ≡ None → refused_line 9 ≡ of_text of text
   unfolding of_text
   text_malformed of e = rw (malformed text room long r room' left e)
 
-  pub malformed_unworked : (worked : List ℕ → Bool) → r ≡ Nothing → text_worked worked text ≡ false
+  pub malformed_unworked : (worked : List ℕ → Bool) → r ≡ None → text_worked worked text ≡ false
   unfolding text_worked
   malformed_unworked worked e = rw (malformed text room long r room' left e)
 
-  module _ (n : ℕ) (e : r ≡ Numbers n) where
+  module _ (n : ℕ) (e : r ≡ Some n) where
     -- as many as there are words, 16,384 at most
     pub numbers_few : n ≤ 16384
     unfolding well_formed numbers_in
@@ -69,9 +66,9 @@ module _ (M : ℕ) (line : 29 ≤ M) where
   tested_long false n text h = omega (arith, line, refused_long n)
 
   -- of an input
-  pub told_long : (v : Verdict) (text : List ℕ) → (v ≡ Accepted → length text ≤ M) → length (told v text) ≤ M
-  told_long Accepted text h = h refl
-  told_long (Refused r) text h = omega (arith, line, refused_long (number_of r))
+  pub told_long : (v : Verdict) (text : List ℕ) → (v ≡ Ok tt → length text ≤ M) → length (told v text) ≤ M
+  told_long (Ok tt) text h = h refl
+  told_long (Err r) text h = omega (arith, line, refused_long (number_of r))
 
   -- of a text, whatever its numbers are
   pub text_long : (of : List ℕ → List ℕ) → ((ns : List ℕ) → length (of ns) ≤ M) → (text : List ℕ) → length (of_text of text) ≤ M

@@ -6,14 +6,8 @@ ghost use Rattle.std.specs.Prelude.{[], ◌∷◌, ◌++◌};
 ghost use Rattle.writing.specs.Put.{Put};
 ghost use Rattle.writing.specs.Writing.{decimal, refused_line, gap, numbers_line};
 
-// What a call for a text answers: how many bytes it wrote, or that a room is too short.
-#[derive(Clone, Copy)]
-pub enum Written {
-    Bytes(usize),
-    NoRoom,
-}
-
 // The byte `b` at place `at`.
+#[tactic(auto, unfolding(crate::specs::Put::with_bytes))]
 pub fn put_byte(room: &mut [u8], at: usize, b: u8) -> usize
     ensures { Put (b ∷ []) at result room.old room.new }
 {
@@ -29,10 +23,8 @@ pub fn put(room: &mut [u8], at: usize, bytes: &[u8]) -> usize
     ensures { Put bytes.now at result room.old room.new }
 {
     let mut end = at;
-    let mut i: usize = 0;
-    while i < bytes.len() {
-        end = put_byte(room, end, bytes[i]);
-        i += 1;
+    for b in bytes {
+        end = put_byte(room, end, *b);
     }
     end
 }
@@ -78,10 +70,8 @@ pub fn put_numbers_line(room: &mut [u8], at: usize, numbers: &[u32]) -> usize
     ensures { Put (numbers_line numbers.now) at result room.old room.new }
 {
     let mut end = at;
-    let mut i: usize = 0;
-    while i < numbers.len() {
-        end = put_entry(room, end, numbers[i] as u64, i + 1 == numbers.len());
-        i += 1;
+    for (i, n) in numbers.iter().enumerate() {
+        end = put_entry(room, end, *n as u64, i + 1 == numbers.len());
     }
     end
 }

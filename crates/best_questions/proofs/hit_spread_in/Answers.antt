@@ -1,16 +1,16 @@
--- `hit_spread_in` meets its contract: the first states are the table of the part that is handed on.
-use mathlib.Core.Path.{ap, ◌∙◌}
-use mathlib.Core.List.{List}
-use Rattle.rules.specs.declared.BestState.{BestState}
-use Rattle.rules.specs.BestQuestions.{hit_spread_answer}
-use Rattle.words.proofs.Spans.{span_within}
-use Rattle.words.proofs.BestTables.{span_table}
+-- `hit_spread_in` meets its contract: what the spread of any count answers and leaves is what this one does.
+use Rattle.std.proofs.lemmas.Result.{err_from_is_err_and}
+use Rattle.rules.specs.declared.Hits.{Hits}
+use Rattle.any_table.proofs.Answered.{given, refused}
+use Rattle.best_questions.proofs.Answered.{hit_answered}
 use Rattle.best_questions.proofs.hit_spread_in.Goals as goal
 
-pub slice_bounds-hit_spread_of-end : goal.slice_bounds-hit_spread_of-end
-slice_bounds-hit_spread_of-end c = span_within _ _ _ c.span-end.ensures
+pub returns-in_err-spread_in : goal.returns-in_err-spread_in
+returns-in_err-spread_in c =
+    let p = err_from_is_err_and c.from_residual.result c.from_residual.ensures.1 in
+    rw (p.1, p.2)
+    (hit_answered _ _ _ c.spread_in.ensures.left _ (refused {C = Hits} (λ n. record { 0 = n }) _ _ _ c.spread_in.ensures.answered _ c.in_err-spread_in.was))
 
 pub returns : goal.returns
 returns c =
-    let a = c.args in
-    c.hit_spread_of.ensures ∙ ap (λ (T : List BestState). hit_spread_answer T a.room.now) (span_table a.words.now a.states _ c.span-end.ensures)
+    hit_answered _ _ _ c.spread_in.ensures.left _ (given {C = Hits} (λ n. record { 0 = n }) _ _ _ c.spread_in.ensures.answered _ c.in_ok-spread_in.was)

@@ -1,21 +1,13 @@
--- `all_tracked` meets its contract.
-use mathlib.Core.Path.{sym, ◌∙◌}
-use borrow.Author.Rules.{rules}
-use Rattle.rules.specs.Contents.{all_tracked}
-use Rattle.basics.proofs.Lists.{list_next, list_end}
+-- `all_tracked` meets its contract: the definition is the library's test.
+use Rattle.std.proofs.Common.{rules, tests, ◌∙◌}
+use Rattle.std.proofs.lemmas.Iterator.{YieldsList-from_slice}
+use Rattle.std.proofs.lemmas.Iterator.Search.{all_from_yields_List}
+use Rattle.rules.specs.Contents.{among}
+use Rattle.graph_check.proofs.Checks.{all_among}
 use Rattle.graph_check.proofs.all_tracked.Goals as goal
-
-pub loop-i-preserved : goal.loop-i-preserved
-loop-i-preserved c =
-    let ts = c.args.tracked.now in
-    (search rules, rw (sym c.among.ensures ∙ c.if-among.true) at (list_next (all_tracked ts) _ _ _ c.loop-i.invariant.1 0 c.loop-i-test.true))
-
-pub returns-else-among : goal.returns-else-among
-returns-else-among c =
-    let ts = c.args.tracked.now in
-    rw (sym c.among.ensures ∙ c.if-among.false) at (list_next (all_tracked ts) _ _ _ c.loop-i.invariant.1 0 c.loop-i-test.true)
 
 pub returns : goal.returns
 returns c =
-    let ts = c.args.tracked.now in
-    list_end (all_tracked ts) _ _ _ c.loop-i.invariant.1 c.loop-i-test.false
+    let a = c.args in
+    all_from_yields_List (among a.tracked.now) _ _ _ c.all.ensures.ran (YieldsList-from_slice a.accesses.now (cc)) (λ x b q k. search (rules, tests))
+    ∙ all_among a.tracked.now a.accesses.now

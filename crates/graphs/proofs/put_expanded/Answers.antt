@@ -9,13 +9,13 @@ use Rattle.graphs.specs.Listings.{input_lines}
 use Rattle.graphs.proofs.put_expanded.Goals as goal
 
 pub slice_bounds-put_graph-end-2 : goal.slice_bounds-put_graph-end-2
-slice_bounds-put_graph-end-2 c = sym (length-take-le c.args.nodes c.args.runs.now c.requires.2)
+slice_bounds-put_graph-end-2 c = sym (length-take-le c.args.size.nodes c.args.runs.now c.requires.2)
 
 pub slice_bounds-put_graph-end-4 : goal.slice_bounds-put_graph-end-4
-slice_bounds-put_graph-end-4 c = sym (length-take-le c.args.many c.args.accesses.now c.requires.3)
+slice_bounds-put_graph-end-4 c = sym (length-take-le c.args.size.accesses c.args.accesses.now c.requires.3)
 
 pub slice_bounds-put_graph-end-6 : goal.slice_bounds-put_graph-end-6
-slice_bounds-put_graph-end-6 c = sym (length-take-le (c.args.links * 2) c.args.edges.now c.requires.4)
+slice_bounds-put_graph-end-6 c = sym (length-take-le (c.args.size.edges * 2) c.args.edges.now c.requires.4)
 
 pub put_graph-end-requires : goal.put_graph-end-requires
 put_graph-end-requires c =
@@ -28,9 +28,9 @@ returns c =
     record {
       put =
           put_is _ _ _ _ _ _ c.put_graph-end.ensures
-          (ap (λ (k : ℕ). input_lines (get_or ns 0 0) (get_or ns 1 0) (take (k - 3) (drop 3 ns)) (take a.nodes a.runs.now) (take a.many a.accesses.now) (take (a.links * 2) a.edges.now))
+          (ap (λ (k : ℕ). input_lines (get_or ns 0 0) (get_or ns 1 0) (take (k - 3) (drop 3 ns)) (take a.size.nodes a.runs.now) (take a.size.accesses a.accesses.now) (take (a.size.edges * 2) a.edges.now))
           c.last_shown-last.ensures);
-      runs = c.clear_numbers.ensures;
-      accesses = c.clear_numbers-2.ensures;
-      edges = c.clear_numbers-3.ensures;
+      runs = c.fill.ensures.after (λ y p. p);
+      accesses = c.fill-2.ensures.after (λ y p. p);
+      edges = c.fill-3.ensures.after (λ y p. p);
     }

@@ -21,7 +21,7 @@ pub put_expanded-requires : goal.put_expanded-requires
 put_expanded-requires c =
     let p = c.requires in
     let parts = listing_ends _ _ _ c.end_of-first.ensures c.end_of.ensures c.if-end_of-numbers.false in
-    let s = expansion_shown _ _ _ _ p.0 p.1 p.2 _ _ _ _ c.expand_from.ensures _ _ _ c.in-Graph.is in (
+    let s = expansion_shown _ _ _ _ p.0 p.1 p.2 _ _ _ _ c.expand_from.ensures _ c.in-Ok.is in (
       parts.from,
       omega (arith, parts.to),
       omega (arith, s.few_nodes, c.expand_from.auto.runs, p.0),
@@ -29,21 +29,21 @@ put_expanded-requires c =
       omega (arith, s.few_edges, c.expand_from.auto.edges, p.2),
     )
 
-pub returns-in-Refused : goal.returns-in-Refused
-returns-in-Refused c =
+pub returns-in-Err : goal.returns-in-Err
+returns-in-Err c =
     let p = c.requires in
     let parts = listing_ends _ _ _ c.end_of-first.ensures c.end_of.ensures c.if-end_of-numbers.false in
-    let refused = expansion_refused _ _ _ _ p.0 p.1 p.2 _ _ _ _ c.expand_from.ensures _ c.in-Refused.is in
-    let kept = expansion_kept _ _ _ _ p.0 p.1 p.2 _ _ _ _ c.expand_from.ensures _ c.in-Refused.is in
+    let refused = expansion_refused _ _ _ _ p.0 p.1 p.2 _ _ _ _ c.expand_from.ensures _ c.in-Err.is in
+    let kept = expansion_kept _ _ _ _ p.0 p.1 p.2 _ _ _ _ c.expand_from.ensures _ c.in-Err.is in
     graph_refused _ _ _ _ _ (refused_unexpanded _ _ parts _ refused)
-    (put_is _ _ _ _ _ _ c.put_refused-in-Refused.ensures (listing_refused _ _ parts _ _ c.number.ensures refused))
+    (put_is _ _ _ _ _ _ c.put_refused-in-Err.ensures (listing_refused _ _ parts _ _ c.number.ensures refused))
     kept.0 kept.1 kept.2
 
-pub returns-in-Graph : goal.returns-in-Graph
-returns-in-Graph c =
+pub returns-in-Ok : goal.returns-in-Ok
+returns-in-Ok c =
     let p = c.requires in
     let parts = listing_ends _ _ _ c.end_of-first.ensures c.end_of.ensures c.if-end_of-numbers.false in
-    let s = expansion_shown _ _ _ _ p.0 p.1 p.2 _ _ _ _ c.expand_from.ensures _ _ _ c.in-Graph.is in
+    let s = expansion_shown _ _ _ _ p.0 p.1 p.2 _ _ _ _ c.expand_from.ensures _ c.in-Ok.is in
     let wrote = c.put_expanded.ensures in
     let e = c.expand_from in
     graph_worked _ _ _ _ _ (shown_expanded _ _ parts _ _ _ _ _ _ s) (put_is _ _ _ _ _ _ wrote.put (listing_shown _ _ parts _ _ _ _ _ _ s))

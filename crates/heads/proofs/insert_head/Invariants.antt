@@ -4,6 +4,3 @@ use Rattle.heads.proofs.insert_head.Given as goal
 
 abbrev pub invariant-loop-j : goal.invariant-loop-j
 invariant-loop-j l = Making l.count l.head l.initial.heads l.heads l.j
-
-abbrev pub decreases-loop-j : goal.decreases-loop-j
-decreases-loop-j l = l.j

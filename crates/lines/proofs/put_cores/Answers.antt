@@ -14,9 +14,6 @@ slice_bounds-each_core-end c = sym (length-take-le 4097 c.args.counts.now (le_of
 pub each_core-requires : goal.each_core-requires
 each_core-requires c = le_of_eq (length-take-le 4097 c.args.counts.now (le_of_lt c.if-counts-gt4097.true))
 
-pub each_core-requires-2 : goal.each_core-requires-2
-each_core-requires-2 c = omega (arith, c.if-counts-gt4097.false)
-
 pub returns : goal.returns
 returns c =
     let all = take_all 4097 c.args.counts.now (omega (arith, c.if-counts-gt4097.false)) in

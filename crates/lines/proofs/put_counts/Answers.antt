@@ -14,9 +14,6 @@ slice_bounds-put_lines-end c = sym (length-take-le 4097 c.args.counts.now (le_of
 pub put_lines-requires : goal.put_lines-requires
 put_lines-requires c = omega (arith, length-take-le 4097 c.args.counts.now (le_of_lt c.if-counts-gt4097.true))
 
-pub put_lines-requires-2 : goal.put_lines-requires-2
-put_lines-requires-2 c = omega (arith, c.if-counts-gt4097.false)
-
 pub returns : goal.returns
 returns c =
     let all = take_all 4097 c.args.counts.now (omega (arith, c.if-counts-gt4097.false)) in

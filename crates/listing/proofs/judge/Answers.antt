@@ -17,10 +17,10 @@ pub returns-in_default : goal.returns-in_default
 returns-in_default c = no_listing (listing_of c.args.tokens.now) c.args.runs c.args.accesses c.args.edges c.if-runs-lt64.false c.if-accesses-lt4096.false c.if-edges-lt4032.false (length c.args.tokens.now) c.count_listing.result c.count_listing.ensures c.in_default.is
 
 pub returns-then-size-gt63 : goal.returns-then-size-gt63
-returns-then-size-gt63 c = many_nodes (listing_of c.args.tokens.now) c.args.runs c.args.accesses c.args.edges c.if-runs-lt64.false c.if-accesses-lt4096.false c.if-edges-lt4032.false (length c.args.tokens.now) c.count_listing.result c.count_listing.ensures c.in-Found.size c.in-Found.is c.if-size-gt63.true
+returns-then-size-gt63 c = many_nodes (listing_of c.args.tokens.now) c.args.runs c.args.accesses c.args.edges c.if-runs-lt64.false c.if-accesses-lt4096.false c.if-edges-lt4032.false (length c.args.tokens.now) c.count_listing.result c.count_listing.ensures c.in-Some.size c.in-Some.is c.if-size-gt63.true
 
 pub returns-then-size-gt4096 : goal.returns-then-size-gt4096
-returns-then-size-gt4096 c = many_accesses (listing_of c.args.tokens.now) c.args.runs c.args.accesses c.args.edges c.if-runs-lt64.false c.if-accesses-lt4096.false c.if-edges-lt4032.false (length c.args.tokens.now) c.count_listing.result c.count_listing.ensures c.in-Found.size c.in-Found.is c.if-size-gt4096.true
+returns-then-size-gt4096 c = many_accesses (listing_of c.args.tokens.now) c.args.runs c.args.accesses c.args.edges c.if-runs-lt64.false c.if-accesses-lt4096.false c.if-edges-lt4032.false (length c.args.tokens.now) c.count_listing.result c.count_listing.ensures c.in-Some.size c.in-Some.is c.if-size-gt4096.true
 
 pub returns : goal.returns
-returns c = accepted (listing_of c.args.tokens.now) c.args.runs c.args.accesses c.args.edges c.if-runs-lt64.false c.if-accesses-lt4096.false c.if-edges-lt4032.false (length c.args.tokens.now) c.count_listing.result c.count_listing.ensures c.in-Found.size c.in-Found.is c.if-size-gt63.false c.if-size-gt4096.false
+returns c = accepted (listing_of c.args.tokens.now) c.args.runs c.args.accesses c.args.edges c.if-runs-lt64.false c.if-accesses-lt4096.false c.if-edges-lt4032.false (length c.args.tokens.now) c.count_listing.result c.count_listing.ensures c.in-Some.size c.in-Some.is c.if-size-gt63.false c.if-size-gt4096.false

@@ -5,9 +5,9 @@ use Rattle.listing.proofs.write_graph.Goals as goal
 pub write_sequence-end-requires : goal.write_sequence-end-requires
 write_sequence-end-requires c =
     let a = c.args in
-    start_ready a.tokens.now a.runs.now a.accesses.now a.edges.now c.requires _ _ _ c.clear_numbers.ensures c.clear_numbers-2.ensures c.clear_numbers-3.ensures
+    start_ready a.tokens.now a.runs.now a.accesses.now a.edges.now c.requires _ _ _ (c.fill.ensures.after (λ y p. p)) (c.fill-2.ensures.after (λ y p. p)) (c.fill-3.ensures.after (λ y p. p))
 
 pub returns : goal.returns
 returns c =
     let a = c.args in
-    accepted_leaves a.tokens.now a.runs.now a.accesses.now a.edges.now c.requires _ _ _ c.clear_numbers.ensures c.clear_numbers-2.ensures c.clear_numbers-3.ensures _ _ c.write_sequence-end.ensures
+    accepted_leaves a.tokens.now a.runs.now a.accesses.now a.edges.now c.requires _ _ _ (c.fill.ensures.after (λ y p. p)) (c.fill-2.ensures.after (λ y p. p)) (c.fill-3.ensures.after (λ y p. p)) _ _ c.write_sequence-end.ensures

@@ -9,15 +9,16 @@ use Rattle.listing_form.proofs.+count_branch_count_item_count_loop_count_sequenc
 -- ---- a branch
 
 -- the first arm, read from the branch's place on; its token follows
-left_seen : (t : ℕ) (c : goal.count_branch-After-token t) → SeenSequence c.args.tokens.now c.args.at c.args.depth c.in-Found.left
-left_seen t c = seen_sequence _ _ _ c.requires c.count_sequence.result c.count_sequence.ensures _ c.in-Found.is
+left_seen : (t : ℕ) (c : goal.count_branch-After-token t) → SeenSequence c.args.tokens.now c.args.at c.args.depth c.in_ok-left.left
+left_seen t c = seen_sequence _ _ _ c.requires c.count_sequence.result c.count_sequence.ensures _ c.in_ok-left.was
 
 -- it is closed
-left_closed : (t : ℕ) (c : goal.count_branch-Else-token-ne3 t) → (get_or c.args.tokens.now c.in-Found.left.at 0 ≡ 3) × (c.in-Found.left.at < length c.args.tokens.now)
+left_closed : (t : ℕ) (c : goal.count_branch-Else-token-ne3 t) → (get_or c.args.tokens.now c.in_ok-left.left.at 0 ≡ 3) × (c.in_ok-left.left.at < length c.args.tokens.now)
 left_closed t c = closing _ _ 3 c.token.result c.token.ensures c.if-token-ne3.false (λ q. omega (arith, q))
 
-pub count_branch-returns-in_default : goal.count_branch-returns-in_default
-count_branch-returns-in_default t c = no_left c.args.tokens.now c.args.at c.args.depth (unseen _ _ _ c.count_sequence.ensures c.in_default.is)
+pub count_branch-returns-in_err-left : goal.count_branch-returns-in_err-left
+count_branch-returns-in_err-left t c =
+    rw c.from_residual.ensures (no_left c.args.tokens.now c.args.at c.args.depth (unseen _ _ _ c.count_sequence.ensures c.in_err-left.was))
 
 pub count_branch-returns-then-token-ne3 : goal.count_branch-returns-then-token-ne3
 count_branch-returns-then-token-ne3 t c =
@@ -30,21 +31,22 @@ count_branch-count_sequence-requires-2 t c =
     (omega (arith, closed.1, (left_seen t at.After-token).from, c.decreases), omega (arith, closed.1))
 
 -- the second arm, read from behind that on; its token follows
-right_seen : (t : ℕ) (c : goal.count_branch-After-token-2 t) → SeenSequence c.args.tokens.now (c.in-Found.left.at + 1) c.args.depth c.in-Found-count_sequence.right
+right_seen : (t : ℕ) (c : goal.count_branch-After-token-2 t) → SeenSequence c.args.tokens.now (c.in_ok-left.left.at + 1) c.args.depth c.in_ok-right.right
 right_seen t c =
-    let closed = closing c.args.tokens.now c.in-Found.left.at 3 c.token.result c.token.ensures c.if-token-ne3.false (λ q. omega (arith, q)) in
-    seen_sequence _ _ _ (omega (arith, closed.1)) c.count_sequence-2.result c.count_sequence-2.ensures _ c.in-Found-count_sequence.is
+    let closed = closing c.args.tokens.now c.in_ok-left.left.at 3 c.token.result c.token.ensures c.if-token-ne3.false (λ q. omega (arith, q)) in
+    seen_sequence _ _ _ (omega (arith, closed.1)) c.count_sequence-2.result c.count_sequence-2.ensures _ c.in_ok-right.was
 
 -- it is closed
 right_closed : (t : ℕ) (c : goal.count_branch-Else-token-ne4 t)
-    → (get_or c.args.tokens.now c.in-Found-count_sequence.right.at 0 ≡ 4) × (c.in-Found-count_sequence.right.at < length c.args.tokens.now)
+    → (get_or c.args.tokens.now c.in_ok-right.right.at 0 ≡ 4) × (c.in_ok-right.right.at < length c.args.tokens.now)
 right_closed t c = closing _ _ 4 c.token-2.result c.token-2.ensures c.if-token-ne4.false (λ q. omega (arith, q))
 
-pub count_branch-returns-in_default-count_sequence : goal.count_branch-returns-in_default-count_sequence
-count_branch-returns-in_default-count_sequence t c =
-    let at = goal.at.count_branch-returns-in_default-count_sequence t c in
+pub count_branch-returns-in_err-right : goal.count_branch-returns-in_err-right
+count_branch-returns-in_err-right t c =
+    let at = goal.at.count_branch-returns-in_err-right t c in
     let closed = left_closed t at.Else-token-ne3 in
-    no_right _ _ _ _ (left_seen t at.After-token) closed.0 closed.1 (unseen _ _ _ c.count_sequence-2.ensures c.in_default-count_sequence.is)
+    rw c.from_residual-in_err-right.ensures
+    (no_right _ _ _ _ (left_seen t at.After-token) closed.0 closed.1 (unseen _ _ _ c.count_sequence-2.ensures c.in_err-right.was))
 
 pub count_branch-returns-then-token-ne4 : goal.count_branch-returns-then-token-ne4
 count_branch-returns-then-token-ne4 t c =
@@ -97,14 +99,14 @@ count_loop-returns-then-count-gt64 t c =
 pub count_loop-count_sequence-requires : goal.count_loop-count_sequence-requires
 count_loop-count_sequence-requires t c = (omega (arith, (rounds t c).2, c.decreases), omega (arith, (rounds t c).2))
 
-pub count_loop-returns-in_default : goal.count_loop-returns-in_default
-count_loop-returns-in_default t c =
-    let n = rounds t (goal.at.count_loop-returns-in_default t c).Else-count-gt64 in
-    no_body _ _ _ n.2 n.0 n.1 (unseen _ _ _ c.count_sequence.ensures c.in_default.is)
+pub count_loop-returns-in_err-body : goal.count_loop-returns-in_err-body
+count_loop-returns-in_err-body t c =
+    let n = rounds t (goal.at.count_loop-returns-in_err-body t c).Else-count-gt64 in
+    rw c.from_residual.ensures (no_body _ _ _ n.2 n.0 n.1 (unseen _ _ _ c.count_sequence.ensures c.in_err-body.was))
 
 -- the sequence that it runs, read from behind the count on; its token follows
-body_seen : (t : ℕ) (c : goal.count_loop-After-token t) → c.args.at < length c.args.tokens.now → SeenSequence c.args.tokens.now (c.args.at + 1) c.args.depth c.in-Found.body
-body_seen t c l = seen_sequence _ _ _ (omega (arith, l)) c.count_sequence.result c.count_sequence.ensures _ c.in-Found.is
+body_seen : (t : ℕ) (c : goal.count_loop-After-token t) → c.args.at < length c.args.tokens.now → SeenSequence c.args.tokens.now (c.args.at + 1) c.args.depth c.in_ok-body.body
+body_seen t c l = seen_sequence _ _ _ (omega (arith, l)) c.count_sequence.result c.count_sequence.ensures _ c.in_ok-body.was
 
 pub count_loop-returns-then-token-ne6 : goal.count_loop-returns-then-token-ne6
 count_loop-returns-then-token-ne6 t c =
@@ -113,7 +115,7 @@ count_loop-returns-then-token-ne6 t c =
     body_open _ _ _ n.2 n.0 n.1 _ (body_seen t at.After-token n.2) (λ q. c.if-token-ne6.true (c.token.ensures ∙ q))
 
 -- it is closed
-body_closed : (t : ℕ) (c : goal.count_loop-Else-token-ne6 t) → (get_or c.args.tokens.now c.in-Found.body.at 0 ≡ 6) × (c.in-Found.body.at < length c.args.tokens.now)
+body_closed : (t : ℕ) (c : goal.count_loop-Else-token-ne6 t) → (get_or c.args.tokens.now c.in_ok-body.body.at 0 ≡ 6) × (c.in_ok-body.body.at < length c.args.tokens.now)
 body_closed t c = closing _ _ 6 c.token.result c.token.ensures c.if-token-ne6.false (λ q. omega (arith, q))
 
 pub count_loop-returns : goal.count_loop-returns
@@ -128,24 +130,25 @@ count_loop-returns t c =
 
 pub count_sequence-count_item-requires : goal.count_sequence-count_item-requires
 count_sequence-count_item-requires t c =
-    let inside = begins_inside c.args.tokens.now _ c.args.depth (sym c.loop-here-test.true ∙ c.begins_item.ensures) in
-    (omega (arith, inside, c.loop-here.invariant.from, c.decreases), inside)
+    let inside = begins_inside c.args.tokens.now _ c.args.depth (sym c.loop-so_far-test.true ∙ c.begins_item.ensures) in
+    (omega (arith, inside, c.loop-so_far.invariant.from, c.decreases), inside)
 
-pub count_sequence-returns-in_default : goal.count_sequence-returns-in_default
-count_sequence-returns-in_default t c =
-    reading_broken _ _ _ _ c.loop-here.invariant (sym c.loop-here-test.true ∙ c.begins_item.ensures) _ c.count_item.ensures c.in_default.is
+pub count_sequence-returns-in_err-next : goal.count_sequence-returns-in_err-next
+count_sequence-returns-in_err-next t c =
+    rw c.from_residual.ensures
+    (reading_broken _ _ _ _ c.loop-so_far.invariant (sym c.loop-so_far-test.true ∙ c.begins_item.ensures) _ c.count_item.ensures c.in_err-next.was)
 
 -- the item that was read
-next_read : (t : ℕ) (c : goal.count_sequence-After-both-so_far t) → (c.loop-here.so_far.at < c.in-Found.next.at) × Under c.args.tokens.now c.args.at c.args.depth (behind c.loop-here.so_far c.in-Found.next)
+next_read : (t : ℕ) (c : goal.count_sequence-After-both-so_far t) → (c.loop-so_far.so_far.at < c.in_ok-next.next.at) × Under c.args.tokens.now c.args.at c.args.depth (behind c.loop-so_far.so_far c.in_ok-next.next)
 next_read t c =
-    reading_next _ _ _ _ c.loop-here.invariant (sym c.loop-here-test.true ∙ c.begins_item.ensures) _ c.count_item.ensures _ c.in-Found.is
+    reading_next _ _ _ _ c.loop-so_far.invariant (sym c.loop-so_far-test.true ∙ c.begins_item.ensures) _ c.count_item.ensures _ c.in_ok-next.was
 
-pub count_sequence-loop-here-smaller : goal.count_sequence-loop-here-smaller
-count_sequence-loop-here-smaller t c =
+pub count_sequence-loop-so_far-smaller : goal.count_sequence-loop-so_far-smaller
+count_sequence-loop-so_far-smaller t c =
     omega (arith, ap (λ z. z.at) c.both-so_far.ensures, (next_read t c).0, (next_read t c).1.to)
 
-pub count_sequence-loop-here-preserved : goal.count_sequence-loop-here-preserved
-count_sequence-loop-here-preserved t c = rw c.both-so_far.ensures (next_read t c).1
+pub count_sequence-loop-so_far-preserved : goal.count_sequence-loop-so_far-preserved
+count_sequence-loop-so_far-preserved t c = rw c.both-so_far.ensures (next_read t c).1
 
 pub count_sequence-returns : goal.count_sequence-returns
-count_sequence-returns t c = reading_end _ _ _ _ c.loop-here.invariant (sym c.loop-here-test.false ∙ c.begins_item.ensures)
+count_sequence-returns t c = reading_end _ _ _ _ c.loop-so_far.invariant (sym c.loop-so_far-test.false ∙ c.begins_item.ensures)

@@ -16,8 +16,8 @@ decreases-count_loop l = (length l.tokens.now - l.at) * 3 + 3
 abbrev pub decreases-count_sequence : goal.decreases-count_sequence
 decreases-count_sequence l = (length l.tokens.now - l.at) * 3 + 2
 
-abbrev pub invariant-count_sequence-loop-here : goal.invariant-count_sequence-loop-here
-invariant-count_sequence-loop-here l = Under l.tokens l.at l.depth l.so_far
+abbrev pub invariant-count_sequence-loop-so_far : goal.invariant-count_sequence-loop-so_far
+invariant-count_sequence-loop-so_far l = Under l.tokens l.at l.depth l.so_far
 
-abbrev pub decreases-count_sequence-loop-here : goal.decreases-count_sequence-loop-here
-decreases-count_sequence-loop-here l = length l.tokens - l.so_far.at
+abbrev pub decreases-count_sequence-loop-so_far : goal.decreases-count_sequence-loop-so_far
+decreases-count_sequence-loop-so_far l = length l.tokens - l.so_far.at

@@ -1,12 +1,7 @@
 -- `living` meets its contract. The invariant of its loop: what is live before the accesses from place i of the run on.
-use mathlib.Core.Path.{◌≡◌}
-use Prim.Native.Nat.{◌≤◌}
-use lib.ListN.{length, drop}
+use Rattle.std.proofs.Common.{◌≡◌, drop}
 use Rattle.tight_rules.specs.Run.{living}
 use Rattle.live.proofs.living.Given as goal
 
 abbrev pub invariant-loop-i : goal.invariant-loop-i
-invariant-loop-i l = (l.i ≤ length l.run) × (l.so_far ≡ living l.tracked l.live (drop l.i l.run))
-
-abbrev pub decreases-loop-i : goal.decreases-loop-i
-decreases-loop-i l = l.i
+invariant-loop-i l = l.so_far ≡ living l.tracked l.live (drop l.i l.run)

@@ -17,5 +17,5 @@ returns c =
     c.work_graphs-report.ensures.value
     c.work_graphs-report.auto.rows
     c.work_graphs-report.ensures.rows_after
-    c.clear.ensures
-    (c.clear-2.ensures ∙ ap (λ (n : ℕ). replicate n 0) c.work_graphs-report.auto.work)
+    (c.fill.ensures.after (λ y p. p))
+    ((c.fill-2.ensures.after (λ y p. p)) ∙ ap (λ (n : ℕ). replicate n 0) c.work_graphs-report.auto.work)

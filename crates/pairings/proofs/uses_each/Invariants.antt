@@ -1,7 +1,5 @@
 -- `uses_each` goes through the states. The invariant of its loop: the test of the states that are left is the test of all.
-use mathlib.Core.Path.{◌≡◌}
-use Prim.Native.Nat.{◌-◌, ◌/◌, ◌≤◌}
-use lib.ListN.{length, drop}
+use Rattle.std.proofs.Common.{◌≡◌, drop}
 use Rattle.rules.specs.AnyTable.{uses_from}
 use Rattle.rules.specs.Table.{listing}
 use Rattle.rules.specs.Entries.{rows_of}
@@ -11,8 +9,4 @@ use Rattle.pairings.proofs.uses_each.Given as goal
 
 abbrev pub invariant-loop-a : goal.invariant-loop-a
 invariant-loop-a l =
-    (l.a ≤ length l.words / 5)
-    × (uses_from listing (side_of l.second) (rows_of l.rows) l.a (drop l.a (table_of l.words)) ≡ uses_from listing (side_of l.second) (rows_of l.rows) 0 (table_of l.words))
-
-abbrev pub decreases-loop-a : goal.decreases-loop-a
-decreases-loop-a l = length l.words / 5 - l.a
+    uses_from listing (side_of l.second) (rows_of l.rows) l.a (drop l.a (table_of l.words)) ≡ uses_from listing (side_of l.second) (rows_of l.rows) 0 (table_of l.words)

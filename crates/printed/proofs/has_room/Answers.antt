@@ -1,4 +1,4 @@
--- `has_room_lem` meets its contract: each early return is one test of the definition that fails.
+-- `has_room` meets its contract: each early return is one test of the definition that fails.
 use borrow.Author.Tests.{le-leb, lt-leb}
 use Rattle.printed.proofs.has_room.Goals as goal
 

@@ -11,4 +11,4 @@ returns-then-places-trace c = list_no_room _ _ c.if-trace-ne0.false c.if-places-
 
 pub returns : goal.returns
 returns c =
-    list_done _ _ c.if-trace-ne0.false c.if-places-trace.false _ _ _ c.list_all-count.ensures (search rules) c.clear.ensures
+    list_done _ _ c.if-trace-ne0.false c.if-places-trace.false _ _ _ c.list_all-count.ensures (search rules) (c.fill.ensures.after (λ y p. p))

@@ -19,4 +19,4 @@ copy_all-count-requires c = (search rules, none_damaged _ _ c.first_damaged-firs
 pub returns : goal.returns
 returns c =
     let none = none_damaged _ _ c.first_damaged-first.ensures c.if-first-blocks.false in
-    read_done _ _ c.if-trace-ne0.false c.if-accesses-blocks.false none _ _ _ c.copy_all-count.ensures (search rules) c.clear_numbers.ensures
+    read_done _ _ c.if-trace-ne0.false c.if-accesses-blocks.false none _ _ _ c.copy_all-count.ensures (search rules) (c.fill.ensures.after (λ y p. p))

@@ -11,4 +11,4 @@ returns-then-trace-blocks c = write_no_room _ _ c.if-accesses-gt4096.false c.if-
 
 pub returns : goal.returns
 returns c =
-    write_done _ _ c.if-accesses-gt4096.false c.if-trace-blocks.false _ _ c.write_all.ensures (search rules) c.clear_bytes.ensures
+    write_done _ _ c.if-accesses-gt4096.false c.if-trace-blocks.false _ _ c.write_all.ensures (search rules) (c.fill.ensures.after (λ y p. p))

@@ -1,4 +1,4 @@
--- `is_same_lem` is what the order says: equal masks, equal misses and equal filled numbers.
+-- `is_same` is what the order says: equal masks, equal misses and equal filled numbers.
 use Rattle.states.proofs.Same.{mask_apart, misses_apart, filled_same}
 use Rattle.states.proofs.is_same.Goals as goal
 

@@ -3,9 +3,6 @@ use native.Mathlib.Omega.{arith}
 use Rattle.tables.proofs.Places.{top_found, leading_few}
 use Rattle.tables.proofs.highest_place.Goals as goal
 
-pub overflow_cast-result : goal.overflow_cast-result
-overflow_cast-result c = record { fits = omega (arith, leading_few c.args.mask c.ranges.mask.fits) }
-
 pub overflow_sub-result : goal.overflow_sub-result
 overflow_sub-result c = omega (arith, leading_few c.args.mask c.ranges.mask.fits)
 

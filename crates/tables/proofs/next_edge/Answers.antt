@@ -1,19 +1,11 @@
 -- `next_edge` goes from edge to edge.
-use mathlib.Core.Path.{refl, sym, ◌∙◌}
-use Prim.Native.Nat.{◌+◌}
-use native.Mathlib.Omega.{arith}
-use Rattle.tables.proofs.Edges.{next_here, next_other, next_none, next_past}
+use mathlib.Core.Path.{sym, ◌∙◌}
 use borrow.Author.Rules.{rules}
+use Rattle.tables.proofs.Edges.{next_here, next_other, next_none, next_past}
 use Rattle.tables.proofs.next_edge.Goals as goal
 
 pub returns-then-edges-start : goal.returns-then-edges-start
 returns-then-edges-start c = let a = c.args in next_past a.edges.now a.to a.start c.if-edges-start.true
-
-pub loop-e-init : goal.loop-e-init
-loop-e-init c = (search rules, refl)
-
-pub overflow_cast-edges : goal.overflow_cast-edges
-overflow_cast-edges c = omega (arith, c.shared_slice_known-1.given (c.loop-e.e + 1))
 
 pub returns-then-edges-e : goal.returns-then-edges-e
 returns-then-edges-e c =

@@ -2,9 +2,6 @@
 use Rattle.rules.specs.Contents.{with}
 use Rattle.tables.proofs.with_block.Goals as goal
 
-pub returns-in-At : goal.returns-in-At
-returns-in-At c = rw c.in-At.is c.with_place.ensures
-
-pub returns-in-Untracked : goal.returns-in-Untracked
+pub returns-in-None : goal.returns-in-None
 unfolding with
-returns-in-Untracked c = rw c.in-Untracked.is
+returns-in-None c = rw c.in-None.is

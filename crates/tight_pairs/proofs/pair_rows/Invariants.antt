@@ -1,14 +1,7 @@
 -- `pair_rows` goes row by row. The invariant of its loop: the rows before this one are paired.
-use mathlib.Core.Path.{◌≡◌}
-use Prim.Native.Nat.{◌-◌, ◌≤◌}
-use lib.ListN.{length}
 use Rattle.tight_rows.specs.Room.{words_of}
 use Rattle.tight_pairs.specs.Matching.{rows_with, shared_by, PairedTo}
 use Rattle.tight_pairs.proofs.pair_rows.Given as goal
 
 abbrev pub invariant-loop-i : goal.invariant-loop-i
-invariant-loop-i l =
-    (l.i ≤ l.p.left.rows) × (length l.work ≡ length l.initial.work) × PairedTo l.p (rows_with (shared_by l.p (words_of l.initial.work)) l.blocks l.p.right.rows l.i) l.pairs l.n l.initial.work l.work
-
-abbrev pub decreases-loop-i : goal.decreases-loop-i
-decreases-loop-i l = l.p.left.rows - l.i
+invariant-loop-i l = PairedTo l.p (rows_with (shared_by l.p (words_of l.initial.work)) l.blocks l.p.right.rows l.i) l.pairs l.n l.initial.work l.work

@@ -8,4 +8,4 @@ pub returns : goal.returns
 returns c =
     let b = c.put_accesses.new.block in
     head_stored _ _ c.args.block.now c.put_four.new.block c.put_pair.new.block b _ c.requires.0 (search rules)
-    c.put_four.ensures c.put_pair.ensures c.put_accesses.ensures (cleared_rest b c.clear_bytes.new.bytes _ c.clear_bytes.ensures)
+    c.put_four.ensures c.put_pair.ensures c.put_accesses.ensures (cleared_rest b c.fill.new.self _ (c.fill.ensures.after (λ y p. p)))

@@ -1,16 +1,13 @@
 -- `put_places` meets its contract.
-use mathlib.Core.Path.{refl, ◌∙◌}
-use borrow.Author.Rules.{rules}
+use mathlib.Core.Path.{refl}
 use Rattle.writing.proofs.Putting.{numbers_less, numbers_all}
 use Rattle.traces.proofs.put_places.Goals as goal
 
 pub loop-i-init : goal.loop-i-init
-loop-i-init c = (search rules, refl, refl)
+loop-i-init c = refl
 
 pub loop-i-preserved : goal.loop-i-preserved
-loop-i-preserved c =
-    let l = c.loop-i in
-    (search rules, c.put_entry-end.auto.room ∙ l.invariant.1, numbers_less _ _ _ _ _ _ l.invariant.2 c.loop-i-test.true _ _ c.put_entry-end.ensures)
+loop-i-preserved c = numbers_less _ _ _ _ _ _ c.loop-i.invariant c.loop-i-test.true _ _ c.put_entry-end.ensures
 
 pub returns : goal.returns
-returns c = numbers_all _ _ _ _ _ _ c.loop-i.invariant.2 c.loop-i-test.false
+returns c = numbers_all _ _ _ _ _ _ c.loop-i.invariant c.loop-i-test.false

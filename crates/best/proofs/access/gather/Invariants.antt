@@ -1,7 +1,5 @@
 -- `gather` takes the states one by one. The invariant of its loop: the scratch holds what follows the states passed, added.
-use mathlib.Core.Path.{◌≡◌}
-use Prim.Native.Nat.{◌-◌, ◌≤◌}
-use lib.ListN.{length, take, drop}
+use lib.ListN.{take, drop}
 use Rattle.words.specs.BestTables.{table_of}
 use Rattle.best.specs.Rooms.{InScratch}
 use Rattle.rules.specs.Best.{listing}
@@ -11,7 +9,4 @@ use Rattle.best.proofs.access.gather.Given as goal
 
 abbrev pub invariant-loop-i : goal.invariant-loop-i
 invariant-loop-i l =
-    (l.i ≤ l.m) × (length l.work ≡ length l.initial.work) × InScratch (gathered listing (successors l.ways l.x) (take l.m (drop l.from (table_of l.initial.work))) l.i) l.n (table_of l.initial.work) (table_of l.work)
-
-abbrev pub decreases-loop-i : goal.decreases-loop-i
-decreases-loop-i l = l.m - l.i
+    InScratch (gathered listing (successors l.ways l.x) (take l.m (drop l.from (table_of l.initial.work))) l.i) l.n (table_of l.initial.work) (table_of l.work)

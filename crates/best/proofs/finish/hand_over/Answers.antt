@@ -13,10 +13,10 @@ carry-requires c = let a = c.args in
     let n = c.count-n in
     let few = counted_few listing a.last n.result (table_of a.work.now) n.ensures in
     let long = table_long listing a.last n.result (table_of a.work.now) n.ensures (omega (arith, p.0, fits_table a.work.now 5184 p.1)) in
-    (omega (arith, long, p.2, c.clear.auto.words), omega (arith, few, p.0, p.1))
+    (omega (arith, long, p.2, c.fill.ensures.len), omega (arith, few, p.0, p.1))
 
 pub returns : goal.returns
 returns c = let a = c.args in
     let p = c.requires in
     let n = c.count-n in
-    let long = table_long listing a.last n.result (table_of a.work.now) n.ensures (omega (arith, p.0, fits_table a.work.now 5184 p.1)) in record { value = long; res_after = handed_over_lem a.last n.result a.work.now p.0 p.1 n.ensures a.res.now c.clear.new.words c.carry.new.res (omega (arith, long, p.2)) c.clear.ensures c.carry.ensures; work_after = c.clear-2.ensures }
+    let long = table_long listing a.last n.result (table_of a.work.now) n.ensures (omega (arith, p.0, fits_table a.work.now 5184 p.1)) in record { value = long; res_after = handed_over_lem a.last n.result a.work.now p.0 p.1 n.ensures a.res.now c.fill.new.self c.carry.new.res (omega (arith, long, p.2)) (c.fill.ensures.after (λ y p. p)) c.carry.ensures; work_after = (c.fill-2.ensures.after (λ y p. p)) }

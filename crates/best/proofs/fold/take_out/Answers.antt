@@ -1,23 +1,18 @@
 -- `take_out` moves the states behind the place down by one.
-use mathlib.Core.Path.{refl}
+use mathlib.Core.Path.{ap, ◌∙◌}
+use mathlib.Core.List.{List}
+use Prim.Native.Nat.{◌+◌, ◌-◌}
 use native.Mathlib.Omega.{arith}
-use borrow.Author.Rules.{rules}
-use Rattle.words.proofs.BestTables.{below_table}
-use Rattle.rules.specs.Best.{listing}
-use Rattle.tables.proofs.Folding.{closing_none, closing_turn, closing_end}
+use lib.ListN.{take}
+use Rattle.rules.specs.declared.BestState.{BestState}
+use Rattle.words.specs.BestTables.{table_of}
+use Rattle.words.proofs.BestTables.{fits_table}
+use Rattle.tables.proofs.Reading.{best_read}
+use Rattle.tables.proofs.Moving.{moved_table, taken_out}
 use Rattle.best.proofs.fold.take_out.Goals as goal
 
-pub loop-j-init : goal.loop-j-init
-loop-j-init c = (search rules, search rules, refl, closing_none listing _ _)
-
-pub loop-j-preserved : goal.loop-j-preserved
-loop-j-preserved c = let h = c.loop-j in (
-  search rules,
-  search rules,
-  search rules,
-  closing_turn listing _ _ _ _ _ _ h.invariant.0 (below_table _ _ (omega arith)) (below_table _ _ (omega arith)) h.invariant.3 c.load-t.ensures c.store.ensures,
-)
-
 pub returns : goal.returns
-returns c = let a = c.args in
-    closing_end listing a.at _ c.loop-j.j a.n _ (omega arith) (omega arith) c.loop-j.invariant.3
+returns c =
+    let a = c.args in
+    let down = ap table_of c.copy_within.ensures.after ∙ moved_table best_read a.words.now (a.at + 1) a.n a.at (omega arith) (omega arith) (omega arith) in
+    ap (λ (T : List BestState). take (a.n - 1) T) down ∙ taken_out (table_of a.words.now) a.at a.n (omega arith) (fits_table a.words.now a.n (omega arith))

@@ -1,4 +1,4 @@
--- `is_same_lem` is what the order says: equally exact, equal masks, equal misses and equal hits.
+-- `is_same` is what the order says: equally exact, equal masks, equal misses and equal hits.
 use Rattle.best.proofs.Insertion.{exact_apart, mask_apart, misses_apart, hits_same}
 use Rattle.best.proofs.placing.is_same.Goals as goal
 

@@ -1,12 +1,9 @@
 -- `mark` meets its contract. The invariant of its loop: the words before place `i` are marks. Assumes nothing.
 use mathlib.Core.Path.{◌≡◌}
-use Prim.Native.Nat.{ℕ, ◌≤◌, ◌<◌, ◌-◌}
-use lib.ListN.{length, get_or}
+use Prim.Native.Nat.{ℕ, ◌<◌}
+use lib.ListN.{get_or}
 use Rattle.case_text.specs.Rooms.{mark_of}
 use Rattle.case_text.proofs.rooms.mark.Given as goal
 
 abbrev pub invariant-loop-i : goal.invariant-loop-i
-invariant-loop-i l = (l.i ≤ length l.initial.room) × (length l.room ≡ length l.initial.room) × ((j : ℕ) → j < l.i → get_or l.room j 0 ≡ mark_of j)
-
-abbrev pub decreases-loop-i : goal.decreases-loop-i
-decreases-loop-i l = length l.initial.room - l.i
+invariant-loop-i l = (j : ℕ) → j < l.i → get_or l.room j 0 ≡ mark_of j

@@ -1,8 +1,7 @@
 -- `gather_each` takes the states one by one. The invariant of its loop: the scratch holds what follows the states passed, added, and the count has
 -- what was left over of them.
 use mathlib.Core.Path.{◌≡◌}
-use Prim.Native.Nat.{◌-◌, ◌≤◌}
-use lib.ListN.{length, take, drop}
+use lib.ListN.{take, drop}
 use Rattle.words.specs.Tables.{table_of}
 use Rattle.estimate.specs.Rooms.{InScratch}
 use Rattle.rules.specs.Table.{listing}
@@ -13,9 +12,5 @@ use Rattle.estimate.proofs.access.gather_each.Given as goal
 
 abbrev pub invariant-loop-i : goal.invariant-loop-i
 invariant-loop-i l =
-    (l.i ≤ l.m) × (length l.work ≡ length l.initial.work)
-    × InScratch (gathered listing (successors l.ways l.x) (take l.m (drop l.from (table_of l.initial.work))) l.i) l.n (table_of l.initial.work) (table_of l.work)
+    InScratch (gathered listing (successors l.ways l.x) (take l.m (drop l.from (table_of l.initial.work))) l.i) l.n (table_of l.initial.work) (table_of l.work)
     × (l.count.0 ≡ aside_to l.ways l.x (take l.m (drop l.from (table_of l.initial.work))) l.initial.count.0 l.i)
-
-abbrev pub decreases-loop-i : goal.decreases-loop-i
-decreases-loop-i l = l.m - l.i

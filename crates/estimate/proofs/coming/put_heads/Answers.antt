@@ -14,12 +14,6 @@ use Rattle.estimate.proofs.coming.put_heads.Goals as goal
 pub loop-i-init : goal.loop-i-init
 loop-i-init c = let p = c.requires in (refl, put_start _ _ _ _ _ _ _ _ _ p.13 p.14 p.12 refl)
 
-pub bounds-heads-i : goal.bounds-heads-i
-bounds-heads-i c = omega (arith, c.loop-i.invariant.1.same, c.loop-i-test.true, c.requires.8)
-
-pub mask_at-mask-requires : goal.mask_at-mask-requires
-mask_at-mask-requires c = omega (arith, c.start_in.ensures, c.requires.3, c.requires.4, c.loop-i.invariant.0)
-
 pub put_head-so_far-requires : goal.put_head-so_far-requires
 put_head-so_far-requires c = let a = c.args in let p = c.requires in
     let l = c.loop-i in
@@ -42,9 +36,6 @@ put_head-so_far-requires c = let a = c.args in let p = c.requires in
       rw q.scratch.table q.rises,
       rw same (le_trans (next_room _ _ _ _ _ _ _ _ _ l.heads l.i _ _ q t p.8) p.15),
     )
-
-pub pass_on-i-requires : goal.pass_on-i-requires
-pass_on-i-requires c = omega (arith, c.loop-i-test.true, c.requires.8, c.requires.9)
 
 pub loop-i-smaller : goal.loop-i-smaller
 loop-i-smaller c = let a = c.args in let p = c.requires in

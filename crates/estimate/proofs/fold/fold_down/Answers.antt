@@ -1,5 +1,5 @@
 -- `fold_down` folds while there are too many states.
-use mathlib.Core.Path.{refl, sym, ◌∙◌}
+use mathlib.Core.Path.{sym, ◌∙◌}
 use native.Mathlib.Omega.{arith}
 use borrow.Author.Rules.{rules}
 use borrow.Author.Tests.{ltb-true, ltb-false}
@@ -8,16 +8,6 @@ use Rattle.words.proofs.Tables.{fits_table}
 use Rattle.rules.proofs.Table.{states_lawful}
 use Rattle.tables.proofs.Folding.{folding_less, folding_rises, folding_turn, folding_end}
 use Rattle.estimate.proofs.fold.fold_down.Goals as goal
-
-pub loop-words-init : goal.loop-words-init
-loop-words-init c = (search rules, refl, c.requires.2, refl)
-
-pub fold_once-tally-requires : goal.fold_once-tally-requires
-fold_once-tally-requires c = (
-  omega (arith, ltb-true c.args.limit c.loop-words.tally.states (sym c.is_above_limit.ensures ∙ c.loop-words-test.true)),
-  search rules,
-  c.loop-words.invariant.2,
-)
 
 pub loop-words-smaller : goal.loop-words-smaller
 loop-words-smaller c =

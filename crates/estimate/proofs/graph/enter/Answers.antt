@@ -37,9 +37,6 @@ returns-then-edges-e c = let a = c.args in
       none_fit a.limit a.to a.aside.0 (table_of a.work.now) entries (came_from ns a.to 0) none,
     )
 
-pub overflow_mul-from : goal.overflow_mul-from
-overflow_mul-from c = omega (arith, c.shared_slice_known-4-1.given c.next_edge-e.result)
-
 pub count-states-requires : goal.count-states-requires
 count-states-requires c = let a = c.args in
     let n = c.next_edge-e in

@@ -3,28 +3,25 @@ use mathlib.Core.Path.{refl, ◌∙◌}
 use Prim.Native.Nat.{◌+◌, ◌≤◌}
 use native.Mathlib.Omega.{arith}
 use lib.ListN.{get_or}
+use borrow.Author.Rules.{rules}
+use Rattle.words.specs.Tables.{table_of}
+use Rattle.words.proofs.Tables.{fits_table}
 use Rattle.rules.specs.AnyTable.{behind}
 use Rattle.rules.specs.Entries.{entry_of}
 use Rattle.rules.proofs.Fold.{length_folded}
-use Rattle.words.specs.Tables.{table_of}
-use Rattle.tables.specs.Edges.{came_from}
 use Rattle.rules.specs.Table.{listing}
+use Rattle.rules.specs.Fold.{states}
+use Rattle.tables.specs.Edges.{came_from}
 use Rattle.tables.proofs.Nodes.{counted_few}
 use Rattle.tables.proofs.Edges.{into_here, into_none, lower_here, found}
-use Rattle.words.proofs.Tables.{fits_table}
-use Rattle.rules.specs.Fold.{states}
 use Rattle.tables.proofs.Settling.{join_turn, joined}
 use Rattle.estimate.proofs.Graphs.{fit_turn, all_fit_lem}
-use borrow.Author.Rules.{rules}
 use Rattle.estimate.proofs.graph.join_others.Goals as goal
 
 pub loop-e-init : goal.loop-e-init
 loop-e-init c = let n = found _ _ _ _ c.next_edge-e.ensures in
     let p = c.requires in
     (n.1, n.2, refl, p.2, refl, rw n.3 p.6, rw n.3 refl, rw n.3 refl, omega arith)
-
-pub overflow_mul-from : goal.overflow_mul-from
-overflow_mul-from c = omega (arith, c.shared_slice_known-in-loop-e-1.given c.loop-e.e)
 
 pub count-m-requires : goal.count-m-requires
 count-m-requires c = let a = c.args in
@@ -38,9 +35,6 @@ join_to-so_far-requires c = let a = c.args in
     let p = c.requires in
     let low = lower_here a.edges.now a.to l.e l.invariant.1 c.loop-e-test.true l.invariant.5 in
     (omega (arith, l.invariant.2, p.0), omega (arith, p.1), l.invariant.3, omega (arith, low.0, p.1), counted_few listing (get_or a.edges.now l.e 0) _ (table_of l.work) c.count-m.ensures, p.4, p.5, p.7)
-
-pub overflow_add-number : goal.overflow_add-number
-overflow_add-number c = omega (arith, c.loop-e.invariant.8, c.loop-e.invariant.0, c.requires.8, c.loop-e-test.true)
 
 pub loop-e-smaller : goal.loop-e-smaller
 loop-e-smaller c =

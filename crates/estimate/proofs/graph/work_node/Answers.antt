@@ -22,9 +22,6 @@ run-done-requires c = let a = c.args in
     let g = c.enter-entered in
     (p.0, entered_ready (behind a.joins (entry_of a.counts.now a.rows.now)) a.cache a.tracked.now a.limit (4096 - length a.accesses.now) a.j a.past.aside.0 a.edges.now a.work.now p.1 g.result.states g.result.aside.0 g.new.work g.auto.work g.ensures.0)
 
-pub overflow_mul-j-2 : goal.overflow_mul-j-2
-overflow_mul-j-2 c = omega (arith, c.requires.1.node)
-
 pub seal-requires : goal.seal-requires
 seal-requires c = let a = c.args in
     let p = c.requires in

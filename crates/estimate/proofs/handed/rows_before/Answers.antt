@@ -1,28 +1,20 @@
 -- `rows_before` adds the rows of one entry after the other; together they are no more than there are.
-use mathlib.Core.Path.{◌≡◌, sym}
-use native.Mathlib.Numerals.{add-one}
+use mathlib.Core.Bool.{cond}
+use Prim.Native.Nat.{◌<◌}
 use native.Mathlib.Omega.{arith}
-use Rattle.estimate.proofs.HandedIn.{told_none, told_next}
-use borrow.Author.Rules.{rules}
+use lib.Dec.{eqb}
+use lib.ListN.{take}
+use Rattle.std.proofs.Common.{sum_by}
+use Rattle.std.proofs.lemmas.Grind.{common_steps}
+use Rattle.rules.specs.Entries.{no_rows}
+use Rattle.estimate.proofs.HandedIn.{told_sum, told_take}
 use Rattle.estimate.proofs.handed.rows_before.Goals as goal
 
-pub loop-i-init : goal.loop-i-init
-loop-i-init c = (search rules, sym told_none)
-
-pub overflow_add-rows : goal.overflow_add-rows
-overflow_add-rows c =
-    let l = c.loop-i in
-    let next = told_next c.args.counts.now l.i _ _ (omega (arith, c.loop-i-test.true, c.requires.0)) l.invariant.1 c.rows_in-rows.ensures in
-    omega (arith, next.1, c.requires.1)
-
-pub loop-i-preserved : goal.loop-i-preserved
-loop-i-preserved c =
-    let l = c.loop-i in
-    let next = told_next c.args.counts.now l.i _ _ (omega (arith, c.loop-i-test.true, c.requires.0)) l.invariant.1 c.rows_in-rows.ensures in
-    (search rules, rw (add-one l.i) next.0)
+pub sum-requires-clause-fits : goal.sum-requires-clause-fits
+sum-requires-clause-fits c =
+    let few : sum_by (λ n. cond (eqb n no_rows) 0 n) (take c.args.number c.args.counts.now) < 18446744073709551616 =
+    omega (arith, told_sum (take c.args.number c.args.counts.now), told_take c.args.counts.now c.args.number, c.requires.1) in
+    grind (arith, common_steps)
 
 pub returns : goal.returns
-returns c =
-    let l = c.loop-i in
-    let all : l.i ≡ c.args.number = omega arith in
-    rw (← all) l.invariant.1
+returns c = let e = told_sum (take c.args.number c.args.counts.now) in grind (arith, common_steps)

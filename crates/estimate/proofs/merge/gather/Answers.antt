@@ -19,11 +19,6 @@ use Rattle.estimate.proofs.Mixing.{all_to_come}
 use Rattle.estimate.proofs.Runs.{gathered_is}
 use Rattle.estimate.proofs.merge.gather.Goals as goal
 
-pub split_runs-rests-requires : goal.split_runs-rests-requires
-split_runs-rests-requires c = let a = c.args in let p = c.requires in
-    let l = c.list_runs-count.ensures in
-    (p.0, p.1, p.2, p.3, p.4, omega (arith, l.same, l.few, p.2, length-take a.m (drop a.from (table_of a.work.now))), omega arith, p.6, l.listed)
-
 pub put_heads-states-requires : goal.put_heads-states-requires
 put_heads-states-requires c =
     let a = c.args in let p = c.requires in

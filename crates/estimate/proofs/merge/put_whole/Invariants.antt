@@ -1,9 +1,7 @@
 -- `put_whole` takes the states of the run one by one. The invariant of its loop: the scratch holds what comes of the states passed, and what comes of the next belongs to the
 -- place that the run has come to, or further on.
-use mathlib.Core.Path.{◌≡◌}
 use mathlib.Core.List.{map}
-use Prim.Native.Nat.{◌-◌, ◌≤◌}
-use lib.ListN.{length, take, drop}
+use lib.ListN.{take, drop}
 use Rattle.words.specs.Tables.{table_of}
 use Rattle.estimate.specs.Merging.{part}
 use Rattle.estimate.specs.Rooms.{InScratch}
@@ -13,9 +11,5 @@ use Rattle.estimate.proofs.merge.put_whole.Given as goal
 
 abbrev pub invariant-loop-i : goal.invariant-loop-i
 invariant-loop-i l =
-    (l.i ≤ l.m) × (length l.work ≡ length l.initial.work)
-    × InScratch (added (map (part l.ways l.x l.k) (take l.m (drop l.from (table_of l.initial.work)))) (take l.n (drop 4096 (table_of l.initial.work))) l.i) l.so_far.states (table_of l.initial.work) (table_of l.work)
+    InScratch (added (map (part l.ways l.x l.k) (take l.m (drop l.from (table_of l.initial.work)))) (take l.n (drop 4096 (table_of l.initial.work))) l.i) l.so_far.states (table_of l.initial.work) (table_of l.work)
     × To l.ways l.x l.k (take l.m (drop l.from (table_of l.initial.work))) l.i (added (map (part l.ways l.x l.k) (take l.m (drop l.from (table_of l.initial.work)))) (take l.n (drop 4096 (table_of l.initial.work))) l.i) l.so_far.at
-
-abbrev pub decreases-loop-i : goal.decreases-loop-i
-decreases-loop-i l = l.m - l.i

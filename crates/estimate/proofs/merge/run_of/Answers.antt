@@ -12,17 +12,11 @@ use Rattle.estimate.proofs.merge.run_of.Goals as goal
 
 pub loop-i-init : goal.loop-i-init
 loop-i-init c = let a = c.args in
-    let T = table_of a.work.now in (
-      omega arith,
-      omega arith,
-      run_more (InRun a.ways a.x a.mask a.filling) T a.from 0 (state_at T a.from) (omega (arith, fits_table a.work.now (a.from + a.m) (omega arith)))
-          (ap (state_at T) (omega arith)) c.requires.3 tt,
-    )
+    let T = table_of a.work.now in
+    run_more (InRun a.ways a.x a.mask a.filling) T a.from 0 (state_at T a.from) (omega (arith, fits_table a.work.now (a.from + a.m) (omega arith)))
+    (ap (state_at T) (omega arith)) c.requires.3 tt
 
 pub loop-i-preserved : goal.loop-i-preserved
-loop-i-preserved c = let a = c.args in let l = c.loop-i in (
-  omega arith,
-  omega arith,
-  run_more (InRun a.ways a.x a.mask a.filling) (table_of a.work.now) a.from l.i c.load.result
-      (omega (arith, fits_table a.work.now (a.from + a.m) (omega arith), c.loop-i-test.true)) c.load.ensures (goes_so a.x c.requires.0 _ c.load.result _ _ _ c.goes_on.ensures c.if-goes_on.true) l.invariant.2,
-)
+loop-i-preserved c = let a = c.args in let l = c.loop-i in
+    run_more (InRun a.ways a.x a.mask a.filling) (table_of a.work.now) a.from l.i c.load.result
+    (omega (arith, fits_table a.work.now (a.from + a.m) (omega arith), c.loop-i-test.true)) c.load.ensures (goes_so a.x c.requires.0 _ c.load.result _ _ _ c.goes_on.ensures c.if-not-goes_on.false) l.invariant

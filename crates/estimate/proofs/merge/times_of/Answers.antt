@@ -17,9 +17,6 @@ pub returns-then-held-eq0 : goal.returns-then-held-eq0
 unfolding times_of
 returns-then-held-eq0 c = rw (le-ltb c.args.k 16 (omega (arith, c.if-k-lt16.false)), le-ltb 16 c.args.k (omega (arith, c.if-k-gt16.false)), eq-eqb _ _ c.if-held-eq0.true) refl
 
-pub overflow_sub-result : goal.overflow_sub-result
-overflow_sub-result c = omega (arith, c.size_of.ensures, c.requires (omega (arith, c.if-k-gt16.false, c.if-k-lt16.false)))
-
 pub returns : goal.returns
 unfolding times_of
 returns c = let k = c.args.k in

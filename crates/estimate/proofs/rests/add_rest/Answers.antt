@@ -23,10 +23,6 @@ returns-then-rest-eq0 c = let a = c.args in
 few : (m : State) (W : List State) (p : ℕ) → m ≡ state_at W p → (state_at W p).misses ≤ 4095 → m.misses ≤ 4095
 few m W p e h = rw e h
 
-pub overflow_add-t : goal.overflow_add-t
-overflow_add-t c = let r = c.load-s in
-    omega (arith, few r.result (table_of c.args.work.now) c.args.place r.ensures c.requires.1)
-
 pub put_about-put-requires : goal.put_about-put-requires
 put_about-put-requires c = let r = c.load-s in
     let w = c.args.work.now in (

@@ -2,8 +2,8 @@
 -- runs of the whole table.
 use mathlib.Core.Path.{◌≡◌}
 use mathlib.Core.List.{[], map}
-use Prim.Native.Nat.{◌+◌, ◌-◌, ◌≤◌}
-use lib.ListN.{length, take, drop}
+use Prim.Native.Nat.{◌+◌, ◌≤◌}
+use lib.ListN.{take, drop}
 use Rattle.basics.specs.Sums.{sum_over}
 use Rattle.rules.specs.Shape.{Every}
 use Rattle.rules.specs.Step.{left_over}
@@ -16,12 +16,8 @@ use Rattle.estimate.specs.Splitting.{SplitIn}
 use Rattle.estimate.proofs.LeftOver.{runs_to}
 use Rattle.estimate.proofs.rests.split_runs.Given as goal
 
-abbrev pub invariant-loop-i : goal.invariant-loop-i
-invariant-loop-i l =
-    (l.i ≤ l.count) × (length l.work ≡ length l.initial.work) × (length l.parts ≡ length l.initial.parts)
-    × InScratch (add (map (alone l.ways l.x) (runs_to (take l.m (drop l.from (table_of l.initial.work))) (take l.count l.heads) l.i)) []) l.so_far.states (table_of l.initial.work) (table_of l.work)
-    × (l.so_far.left ≡ sum_over (left_over l.ways l.x) (runs_to (take l.m (drop l.from (table_of l.initial.work))) (take l.count l.heads) l.i))
-    × Every (λ h. (start_in h + length_in h ≤ l.m) × SplitIn l.ways l.x (take l.m (drop l.from (table_of l.initial.work))) l.parts h) (take l.i (take l.count l.heads))
-
-abbrev pub decreases-loop-i : goal.decreases-loop-i
-decreases-loop-i l = l.count - l.i
+abbrev pub invariant-loop-head : goal.invariant-loop-head
+invariant-loop-head l =
+    InScratch (add (map (alone l.ways l.x) (runs_to (take l.m (drop l.from (table_of l.initial.work))) l.head-items l.head-index)) []) l.so_far.states (table_of l.initial.work) (table_of l.work)
+    × (l.so_far.left ≡ sum_over (left_over l.ways l.x) (runs_to (take l.m (drop l.from (table_of l.initial.work))) l.head-items l.head-index))
+    × Every (λ h. (start_in h + length_in h ≤ l.m) × SplitIn l.ways l.x (take l.m (drop l.from (table_of l.initial.work))) l.parts h) (take l.head-index l.head-items)

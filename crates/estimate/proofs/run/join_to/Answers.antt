@@ -9,10 +9,6 @@ use Rattle.tables.proofs.Settling.{settled_from}
 use Rattle.estimate.proofs.HandedIn.{by_entry_fits}
 use Rattle.estimate.proofs.run.join_to.Goals as goal
 
-pub pair_entry-paired-requires : goal.pair_entry-paired-requires
-pair_entry-paired-requires c = let p = c.requires in
-    (p.2, p.4, omega (arith, p.1, p.2), omega (arith, p.3, p.4), p.0, p.7)
-
 pub settle-done-requires : goal.settle-done-requires
 settle-done-requires c = let a = c.args in
     let p = c.requires in

@@ -1,7 +1,7 @@
 -- `run` takes the accesses one by one. The invariant of its loop: the table at its place can be worked on, what is before it is as it was, and the
 -- accesses to come lead from it to where all of them lead from the table at the start.
 use mathlib.Core.Path.{◌≡◌}
-use Prim.Native.Nat.{◌-◌, ◌≤◌}
+use Prim.Native.Nat.{◌-◌}
 use lib.ListN.{length, take}
 use Rattle.words.specs.Tables.{table_of}
 use Rattle.estimate.specs.Working.{work_at, Ready}
@@ -9,11 +9,8 @@ use Rattle.rules.specs.Fold.{states}
 use Rattle.tables.proofs.Settling.{Ran}
 use Rattle.estimate.proofs.run.run.Given as goal
 
-abbrev pub invariant-loop-i : goal.invariant-loop-i
-invariant-loop-i l =
-    (l.i ≤ length l.accesses) × (length l.work ≡ length l.initial.work) × Ready l.cache l.tracked l.limit (4096 - (length l.accesses - l.i)) l.at l.so_far.states l.so_far.aside.0 l.work
+abbrev pub invariant-loop-block : goal.invariant-loop-block
+invariant-loop-block l =
+    Ready l.cache l.tracked l.limit (4096 - (length l.accesses - l.block-index)) l.at l.so_far.states l.so_far.aside.0 l.work
     × (take l.at (table_of l.work) ≡ take l.at (table_of l.initial.work))
-    × Ran states l.cache.ways l.cache.sets l.limit l.tracked l.accesses l.i l.before (work_at l.at l.so_far.states l.so_far.aside.0 l.work) l.initial.before (work_at l.at l.initial.so_far.states l.initial.so_far.aside.0 l.initial.work)
-
-abbrev pub decreases-loop-i : goal.decreases-loop-i
-decreases-loop-i l = length l.accesses - l.i
+    × Ran states l.cache.ways l.cache.sets l.limit l.tracked l.accesses l.block-index l.before (work_at l.at l.so_far.states l.so_far.aside.0 l.work) l.initial.before (work_at l.at l.initial.so_far.states l.initial.so_far.aside.0 l.initial.work)

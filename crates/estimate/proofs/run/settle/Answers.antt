@@ -8,9 +8,6 @@ use Rattle.words.proofs.Tables.{fits_table}
 use Rattle.tables.proofs.Settling.{settled}
 use Rattle.estimate.proofs.run.settle.Goals as goal
 
-pub fold_scratch-folded-requires : goal.fold_scratch-folded-requires
-fold_scratch-folded-requires c = let p = c.requires in (omega (arith, p.0, p.2), p.3, p.5)
-
 pub copy-requires : goal.copy-requires
 copy-requires c = let f = c.fold_scratch-folded in
     let few : f.result.states ≤ c.args.limit = rw f.ensures.stands.count (length_folded c.args.limit _ c.requires.3) in

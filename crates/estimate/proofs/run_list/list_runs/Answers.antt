@@ -22,17 +22,11 @@ run_of-run-requires c = let a = c.args in let l = c.loop-at in let e = c.load-fi
   (ap (λ (s : State). s.mask) (sym e), ap (fills a.ways a.x) (sym e) ∙ sym (c.fills-filling.ensures ∙ fills_so a.x c.requires.0.1 a.ways c.load-first.result)),
 )
 
-pub first_head-head-requires : goal.first_head-head-requires
-first_head-head-requires c = c.requires.0
-
 pub overflow_add-count : goal.overflow_add-count
 overflow_add-count c = let a = c.args in let l = c.loop-at in let r = c.run_of-run in record { fits = omega (arith, l.invariant.few, l.invariant.within, stretch_long a.from a.m (table_of a.work.now) (fits_table a.work.now _ c.requires.2), c.requires.1) }
 
 pub overflow_add-at-in-loop-at : goal.overflow_add-at-in-loop-at
 overflow_add-at-in-loop-at c = let a = c.args in let l = c.loop-at in let r = c.run_of-run in record { fits = omega (arith, r.ensures.1, l.invariant.within, stretch_long a.from a.m (table_of a.work.now) (fits_table a.work.now _ c.requires.2), c.requires.1) }
-
-pub loop-at-smaller : goal.loop-at-smaller
-loop-at-smaller c = let a = c.args in let l = c.loop-at in let r = c.run_of-run in omega (arith, r.ensures.0, c.loop-at-test.true)
 
 pub loop-at-preserved : goal.loop-at-preserved
 loop-at-preserved c = let a = c.args in let l = c.loop-at in
@@ -43,9 +37,6 @@ loop-at-preserved c = let a = c.args in let l = c.loop-at in
     c.run_of-run.result c.run_of-run.ensures
     c.with_block-own.result c.first_head-head.result (with_listed _ _ c.requires.0.0 _ c.with_block-own.ensures) c.first_head-head.ensures
     c.insert_head.new.heads c.insert_head.ensures
-
-pub shape_of-heads : goal.shape_of-heads
-shape_of-heads c = c.loop-at.invariant.same
 
 pub returns : goal.returns
 returns c = let a = c.args in let l = c.loop-at in listed_all _ _ _ _ l.at l.count l.heads l.invariant (omega (arith, c.loop-at-test.false, stretch_long a.from a.m (table_of a.work.now) (fits_table a.work.now _ c.requires.2)))

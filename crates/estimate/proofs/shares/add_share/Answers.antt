@@ -23,9 +23,6 @@ pub returns-then-units-eq0 : goal.returns-then-units-eq0
 returns-then-units-eq0 c = let a = c.args in
     (scratch_stays states_read _ a.reached.states a.work.now c.requires.2 (add_gone _ c.if-units-eq0.true _), inl (c.if-units-eq0.true, refl))
 
-pub guess_share-near-requires : goal.guess_share-near-requires
-guess_share-near-requires c = let p = c.requires in (p.2, omega (arith, ap (λ (s : State). s.misses) c.share_of-s.ensures, p.5))
-
 pub returns-then-is_share : goal.returns-then-is_share
 returns-then-is_share c = let a = c.args in let p = c.requires in let W = table_of a.work.now in
     let s = share_of a.to (state_at W a.place) a.units.0 in

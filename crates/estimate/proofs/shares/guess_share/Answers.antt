@@ -4,7 +4,7 @@ use mathlib.Core.List.{List}
 use Prim.Native.Nat.{ℕ, ◌+◌, ◌*◌, ◌≤◌}
 use native.Mathlib.Omega.{arith}
 use lib.ListN.{length, get_or, drop}
-use borrow.Author.Tests.{lt-ltb, le-ltb}
+use borrow.Author.Tests.{lt-ltb}
 use Rattle.rules.specs.declared.State.{State}
 use Rattle.rules.specs.Table.{state_at}
 use Rattle.words.specs.Tables.{table_of}
@@ -17,12 +17,6 @@ here ws i l = ap (λ (s : State). s.misses) (scratch_row ws i l) ∙ ap (λ (b :
   where
     next : 20480 + i * 5 + 1 ≡ 20481 + i * 5
     next = omega arith
-
-pub returns-then-reached : goal.returns-then-reached
-returns-then-reached c = let a = c.args in rw (le-ltb a.reached.at a.reached.states c.if-reached.true) refl
-
-pub overflow_add-result : goal.overflow_add-result
-overflow_add-result c = omega (arith, c.requires.0, c.requires.1, c.if-reached.false, c.ranges)
 
 pub returns-then-here-misses : goal.returns-then-here-misses
 returns-then-here-misses c = let a = c.args in let p = c.if-reached.false in

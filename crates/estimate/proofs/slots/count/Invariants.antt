@@ -1,12 +1,8 @@
 -- `count` goes through the slot. The invariant of its loop: the first n states have units, so that the rest tells.
-use Prim.Native.Nat.{◌-◌, ◌≤◌}
 use Rattle.rules.specs.Table.{listing}
 use Rattle.words.specs.Tables.{table_of}
 use Rattle.tables.proofs.Nodes.{FilledTo}
 use Rattle.estimate.proofs.slots.count.Given as goal
 
 abbrev pub invariant-loop-n : goal.invariant-loop-n
-invariant-loop-n l = (l.n ≤ 64) × FilledTo listing (table_of l.work) l.at l.n
-
-abbrev pub decreases-loop-n : goal.decreases-loop-n
-decreases-loop-n l = 64 - l.n
+invariant-loop-n l = FilledTo listing (table_of l.work) l.at l.n

@@ -4,4 +4,4 @@ use Rattle.estimate.proofs.slots.seal.Goals as goal
 
 pub returns : goal.returns
 returns c =
-    sealed c.args.work.now _ c.args.at c.args.n c.requires.0 c.requires.1 c.clear.ensures
+    sealed c.args.work.now _ c.args.at c.args.n c.requires.0 c.requires.1 (c.fill.ensures.after (λ y p. p))

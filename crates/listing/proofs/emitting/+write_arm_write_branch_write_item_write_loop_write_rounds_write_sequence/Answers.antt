@@ -78,15 +78,15 @@ write_loop-returns t c = loop_done _ _ _ c.requires _ _ c.write_sequence-first.e
 -- ---- rounds
 
 pub write_rounds-loop-round-init : goal.write_rounds-loop-round-init
-write_rounds-loop-round-init t c = (omega arith, sym (no_rounds _ _))
+write_rounds-loop-round-init t c = sym (no_rounds _ _)
 
 pub write_rounds-write_sequence-end-requires : goal.write_rounds-write_sequence-end-requires
 write_rounds-write_sequence-end-requires t c =
-    (omega (arith, c.decreases), round_ready _ _ _ _ c.requires _ _ c.loop-round.invariant.1 c.loop-round-test.true)
+    (omega (arith, c.decreases), round_ready _ _ _ _ c.requires _ _ c.loop-round.invariant c.loop-round-test.true)
 
 pub write_rounds-loop-round-preserved : goal.write_rounds-loop-round-preserved
 write_rounds-loop-round-preserved t c =
-    (omega (arith, c.loop-round-test.true), round_done _ _ _ _ c.requires _ _ c.loop-round.invariant.1 _ _ c.write_sequence-end.ensures)
+    round_done _ _ _ _ c.requires _ _ c.loop-round.invariant _ _ c.write_sequence-end.ensures
 
 -- ---- a sequence
 

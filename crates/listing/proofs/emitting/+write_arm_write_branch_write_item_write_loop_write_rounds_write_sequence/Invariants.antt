@@ -1,6 +1,6 @@
 -- The measure of the cycle is four for each token that is left, and one, two or three more for an item, a sequence, and an arm or the rounds of a
 -- loop. The invariants of the two loops: so many rounds are written; what is left of a sequence gives the whole (`Going`).
-use Rattle.std.proofs.Common.{◌≡◌, ◌+◌, ◌-◌, ◌*◌, ◌≤◌, length}
+use Rattle.std.proofs.Common.{◌≡◌, ◌+◌, ◌-◌, ◌*◌, length}
 use Rattle.listing_form.specs.Reading.{listing_in}
 use Rattle.listing.specs.Expansion.{times}
 use Rattle.listing.specs.Writing.{rooms_of, written, sequence_at}
@@ -27,10 +27,7 @@ decreases-write_sequence l = (length l.tokens.now - l.at) * 4 + 2
 
 abbrev pub invariant-write_rounds-loop-round : goal.invariant-write_rounds-loop-round
 invariant-write_rounds-loop-round l =
-    (l.round ≤ l.count) × (rooms_of l.s l.runs l.accesses l.edges ≡ times l.round (written (listing_in (sequence_at l.tokens l.at))) (rooms_of l.fn.from l.fn.runs l.fn.accesses l.fn.edges))
-
-abbrev pub decreases-write_rounds-loop-round : goal.decreases-write_rounds-loop-round
-decreases-write_rounds-loop-round l = l.count - l.round
+    rooms_of l.s l.runs l.accesses l.edges ≡ times l.round (written (listing_in (sequence_at l.tokens l.at))) (rooms_of l.fn.from l.fn.runs l.fn.accesses l.fn.edges)
 
 abbrev pub invariant-write_sequence-loop-so_far : goal.invariant-write_sequence-loop-so_far
 invariant-write_sequence-loop-so_far l =

@@ -1,4 +1,4 @@
--- `one_more_lem` meets its contract: one is added where the numbers are the same.
+-- `one_more` meets its contract: one is added where the numbers are the same.
 use mathlib.Core.Path.{sym}
 use native.Mathlib.Nat.{add-zero}
 use borrow.Author.Tests.{eq-eqb, ne_eqb}

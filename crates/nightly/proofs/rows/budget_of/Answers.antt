@@ -2,8 +2,8 @@
 use Rattle.nightly.proofs.OneRow.{budget_told, budget_not_refused}
 use Rattle.nightly.proofs.rows.budget_of.Goals as goal
 
-pub returns-in-Misses : goal.returns-in-Misses
-returns-in-Misses c = budget_told _ c.requires _ _ c.smallest_budget_in.ensures _ c.in-Misses.is
+pub returns-in-Ok : goal.returns-in-Ok
+returns-in-Ok c = budget_told _ c.requires _ _ c.smallest_budget_in.ensures _ c.in-Ok.is
 
-pub returns-in-Refused : goal.returns-in-Refused
-returns-in-Refused c = absurd (budget_not_refused _ c.requires _ _ c.smallest_budget_in.ensures _ c.in-Refused.is)
+pub returns-in-Err : goal.returns-in-Err
+returns-in-Err c = absurd (budget_not_refused _ c.requires _ _ c.smallest_budget_in.ensures _ c.in-Err.is)

@@ -22,20 +22,20 @@ returns-then-numbers-gt16384 c = c.refused_row.ensures ∙ row_long c.args.allow
 
 pub longest_of-longest-requires : goal.longest_of-longest-requires
 longest_of-longest-requires c =
-    let f = sym c.in-Finished.is ∙ (left (goal.at.longest_of-longest-requires c).After-analyse_numbers).answer in
+    let f = sym c.in-Ok.is ∙ (left (goal.at.longest_of-longest-requires c).After-analyse_numbers).answer in
     (worked_complete plain c.args.numbers.now _ _ f, worked_accepted plain c.args.numbers.now _ _ f)
 
 pub budget_of-budget-requires : goal.budget_of-budget-requires
 budget_of-budget-requires c =
-    let f = c.in-Finished.is in
+    let f = c.in-Ok.is in
     rw (table_there plain c.args.numbers.now _ _ _ _ _ (left (goal.at.budget_of-budget-requires c).After-analyse_numbers) _ _ f) (worked_table plain c.args.numbers.now _ _ (sym f ∙ (left (goal.at.budget_of-budget-requires c).After-analyse_numbers).answer))
 
-pub returns-in-Refused : goal.returns-in-Refused
-returns-in-Refused c =
-    c.refused_row-in-Refused.ensures ∙ row_refused c.args.allowance c.args.numbers.now c.if-numbers-gt16384.false _ (left (goal.at.returns-in-Refused c).After-analyse_numbers).answer _ c.in-Refused.is _ c.number.ensures
+pub returns-in-Err : goal.returns-in-Err
+returns-in-Err c =
+    c.refused_row-in-Err.ensures ∙ row_refused c.args.allowance c.args.numbers.now c.if-numbers-gt16384.false _ (left (goal.at.returns-in-Err c).After-analyse_numbers).answer _ c.in-Err.is _ c.number.ensures
 
-pub returns-in-Finished : goal.returns-in-Finished
-returns-in-Finished c =
-    let f = c.in-Finished.is in
-    row_finished c.args.allowance c.args.numbers.now c.if-numbers-gt16384.false _ (left (goal.at.returns-in-Finished c).After-analyse_numbers).answer _ _ f _ _ c.longest_of-longest.ensures
-    (c.budget_of-budget.ensures ∙ ap (λ (T : List State). smallest_budget c.args.allowance T) (table_there plain c.args.numbers.now _ _ _ _ _ (left (goal.at.returns-in-Finished c).After-analyse_numbers) _ _ f))
+pub returns-in-Ok : goal.returns-in-Ok
+returns-in-Ok c =
+    let f = c.in-Ok.is in
+    row_finished c.args.allowance c.args.numbers.now c.if-numbers-gt16384.false _ (left (goal.at.returns-in-Ok c).After-analyse_numbers).answer _ _ f _ _ c.longest_of-longest.ensures
+    (c.budget_of-budget.ensures ∙ ap (λ (T : List State). smallest_budget c.args.allowance T) (table_there plain c.args.numbers.now _ _ _ _ _ (left (goal.at.returns-in-Ok c).After-analyse_numbers) _ _ f))

@@ -6,7 +6,4 @@ use Rattle.recorder.specs.Traces.{blocks_of, gathered, damage_at, damaged_places
 use Rattle.recorder.proofs.blocks.first_damaged.Given as goal
 
 abbrev pub invariant-loop-k : goal.invariant-loop-k
-invariant-loop-k l = (l.k ≤ length l.trace / 512) × (gathered damage_at l.k (drop l.k (blocks_of l.trace)) ≡ damaged_places l.trace)
-
-abbrev pub decreases-loop-k : goal.decreases-loop-k
-decreases-loop-k l = length l.trace / 512 - l.k
+invariant-loop-k l = gathered damage_at l.k (drop l.k (blocks_of l.trace)) ≡ damaged_places l.trace

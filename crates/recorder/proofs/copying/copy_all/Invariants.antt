@@ -9,8 +9,5 @@ use Rattle.recorder.proofs.copying.copy_all.Given as goal
 
 abbrev pub invariant-loop-k : goal.invariant-loop-k
 invariant-loop-k l =
-    (l.k ≤ length l.trace / 512) × (l.count ≤ l.k * 125) × (length l.accesses ≡ length l.initial.accesses)
+    (l.count ≤ l.k * 125)
     × (gathered damage_at l.k (drop l.k (blocks_of l.trace)) ≡ []) × (take l.count l.accesses ++ gathered said_at l.k (drop l.k (blocks_of l.trace)) ≡ said l.trace)
-
-abbrev pub decreases-loop-k : goal.decreases-loop-k
-decreases-loop-k l = length l.trace / 512 - l.k

@@ -8,8 +8,4 @@ use Rattle.recorder.proofs.copying.copy_block.Given as goal
 
 abbrev pub invariant-loop-i : goal.invariant-loop-i
 invariant-loop-i l =
-    (l.i ≤ l.count) × (l.count ≤ 125) × (length l.accesses ≡ length l.initial.accesses)
-    × (take (l.at + l.i) l.accesses ++ fours (l.count - l.i) (drop (6 + l.i * 4) l.block) ≡ take l.at l.initial.accesses ++ accesses_in l.block)
-
-abbrev pub decreases-loop-i : goal.decreases-loop-i
-decreases-loop-i l = l.count - l.i
+    (l.count ≤ 125) × (take (l.at + l.i) l.accesses ++ fours (l.count - l.i) (drop (6 + l.i * 4) l.block) ≡ take l.at l.initial.accesses ++ accesses_in l.block)

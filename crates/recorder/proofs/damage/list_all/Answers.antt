@@ -8,15 +8,13 @@ use Rattle.recorder.proofs.damage.list_all.Goals as goal
 
 pub loop-k-init : goal.loop-k-init
 unfolding damaged_places
-loop-k-init c = (search rules, search rules, refl, refl)
+loop-k-init c = (search rules, refl)
 
 pub loop-k-preserved : goal.loop-k-preserved
 loop-k-preserved c = (
-  search rules,
-  noted_most _ _ _ _ _ _ c.note_block-count.ensures c.loop-k.invariant.1 (search rules),
-  search rules,
-  front_next damage_at c.args.trace.now _ c.loop-k.count c.loop-k.places _ c.loop-k.invariant.3 c.loop-k-test.true _ _ c.note_block-count.ensures,
+  noted_most _ _ _ _ _ _ c.note_block-count.ensures c.loop-k.invariant.0 (search rules),
+  front_next damage_at c.args.trace.now _ c.loop-k.count c.loop-k.places _ c.loop-k.invariant.1 c.loop-k-test.true _ _ c.note_block-count.ensures,
 )
 
 pub returns : goal.returns
-returns c = record { within = search rules; stands = gathered_end damage_at _ _ _ _ c.loop-k.invariant.3 c.loop-k-test.false }
+returns c = record { within = search rules; stands = gathered_end damage_at _ _ _ _ c.loop-k.invariant.1 c.loop-k-test.false }

@@ -8,7 +8,4 @@ use Rattle.recorder.proofs.damage.list_all.Given as goal
 
 abbrev pub invariant-loop-k : goal.invariant-loop-k
 invariant-loop-k l =
-    (l.k ≤ length l.trace / 512) × (l.count ≤ l.k) × (length l.places ≡ length l.initial.places) × (take l.count l.places ++ gathered damage_at l.k (drop l.k (blocks_of l.trace)) ≡ damaged_places l.trace)
-
-abbrev pub decreases-loop-k : goal.decreases-loop-k
-decreases-loop-k l = length l.trace / 512 - l.k
+    (l.count ≤ l.k) × (take l.count l.places ++ gathered damage_at l.k (drop l.k (blocks_of l.trace)) ≡ damaged_places l.trace)

@@ -1,23 +1,19 @@
 -- `write_all` meets its contract.
-use mathlib.Core.Path.{refl}
 use borrow.Author.Rules.{rules}
 use Rattle.recorder.proofs.Stored.{part_few, written_start, written_next, written_end}
 use Rattle.recorder.proofs.packing.write_all.Goals as goal
 
 pub loop-k-init : goal.loop-k-init
-loop-k-init c = (search rules, refl, written_start _)
+loop-k-init c = written_start _
 
 pub write_at-requires : goal.write_at-requires
 write_at-requires c =
     (part_few c.args.accesses.now _ _ c.block_end-end.ensures, search rules)
 
 pub loop-k-preserved : goal.loop-k-preserved
-loop-k-preserved c = (
-  search rules,
-  search rules,
-  written_next c.args.accesses.now c.loop-k.trace _ c.loop-k.k _ c.loop-k.invariant.2 c.loop-k-test.true (search rules) _
-      c.block_end-end.ensures _ c.write_at.ensures,
-)
+loop-k-preserved c =
+    written_next c.args.accesses.now c.loop-k.trace _ c.loop-k.k _ c.loop-k.invariant c.loop-k-test.true (search rules) _
+    c.block_end-end.ensures _ c.write_at.ensures
 
 pub returns : goal.returns
-returns c = written_end _ _ _ _ _ c.loop-k.invariant.2 c.loop-k-test.false c.loop-k.invariant.0
+returns c = written_end _ _ _ _ _ c.loop-k.invariant c.loop-k-test.false c.loop-k.auto.k-end

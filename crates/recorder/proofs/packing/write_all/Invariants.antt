@@ -8,8 +8,4 @@ use Rattle.recorder.proofs.packing.write_all.Given as goal
 
 abbrev pub invariant-loop-k : goal.invariant-loop-k
 invariant-loop-k l =
-    (l.k ≤ blocks_for (length l.accesses)) × (length l.trace ≡ length l.initial.trace)
-    × (take (l.k * 512) l.trace ++ trace_from (blocks_for (length l.accesses) - l.k) l.k (drop (l.k * 125) l.accesses) ≡ trace_of l.accesses)
-
-abbrev pub decreases-loop-k : goal.decreases-loop-k
-decreases-loop-k l = blocks_for (length l.accesses) - l.k
+    take (l.k * 512) l.trace ++ trace_from (blocks_for (length l.accesses) - l.k) l.k (drop (l.k * 125) l.accesses) ≡ trace_of l.accesses

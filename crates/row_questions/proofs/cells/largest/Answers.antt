@@ -6,13 +6,13 @@ use Rattle.row_questions.proofs.Standing.{last_next, last_end}
 use Rattle.row_questions.proofs.cells.largest.Goals as goal
 
 pub loop-i-init : goal.loop-i-init
-loop-i-init c = (search rules, search rules, zero-max _)
+loop-i-init c = (search rules, zero-max _)
 
 pub loop-i-preserved : goal.loop-i-preserved
 loop-i-preserved c =
     let l = c.loop-i in
-    let next = last_next c.args.row.now l.i l.last _ _ l.invariant.2 c.loop-i-test.true l.invariant.1 c.last_of-last.ensures in
-    (search rules, rw (add-one l.i) next.0, rw (add-one l.i) next.1)
+    let next = last_next c.args.row.now l.i l.last _ _ l.invariant.1 c.loop-i-test.true l.invariant.0 c.last_of-last.ensures in
+    (rw (add-one l.i) next.0, rw (add-one l.i) next.1)
 
 pub returns : goal.returns
-returns c = let l = c.loop-i in last_end c.args.row.now l.i l.last _ l.invariant.2 c.loop-i-test.false
+returns c = let l = c.loop-i in last_end c.args.row.now l.i l.last _ l.invariant.1 c.loop-i-test.false

@@ -1,10 +1,7 @@
--- `copy_best` goes through the row. The invariant of its loop: what is held, with the states from i on one after the other, is the whole copy.
-use Rattle.std.proofs.Common.{◌≡◌, ◌-◌, ◌≤◌, length, drop}
+-- `copy_best` goes through the row. The invariant of its loop: what is held, with the states that are left one after the other, is the whole copy.
+use Rattle.std.proofs.Common.{◌≡◌, drop}
 use Rattle.rows.specs.Rows.{best_states, one_more, more_of, copied}
 use Rattle.rows.proofs.best_row.copy_best.Given as goal
 
-abbrev pub invariant-loop-i : goal.invariant-loop-i
-invariant-loop-i l = record { within : l.i ≤ length l.row; whole : more_of (one_more best_states) l.held (drop l.i l.row) ≡ copied best_states l.row }
-
-abbrev pub decreases-loop-i : goal.decreases-loop-i
-decreases-loop-i l = length l.row - l.i
+abbrev pub invariant-loop-s : goal.invariant-loop-s
+invariant-loop-s l = more_of (one_more best_states) l.held (drop l.s-index l.row) ≡ copied best_states l.row

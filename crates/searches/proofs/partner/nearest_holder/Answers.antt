@@ -2,7 +2,6 @@
 use mathlib.Core.Path.{refl, sym, ap, ◌∙◌}
 use mathlib.Core.Bool.{true, false}
 use native.Mathlib.Numerals.{add-one}
-use borrow.Author.Rules.{rules}
 use Rattle.rules.specs.Table.{state_at}
 use Rattle.rules.specs.Fold.{apart}
 use Rattle.folding.specs.Ends.{none_nearer}
@@ -16,7 +15,7 @@ pub loop-j-init : goal.loop-j-init
 unfolding nearest_holder
 loop-j-init c =
     let a = c.args in
-    (rw (add-one a.first) refl, c.apart-near.ensures ∙ ap (apart a.s) c.load.ensures, search rules)
+    (rw (add-one a.first) refl, c.apart-near.ensures ∙ ap (apart a.s) c.load.ensures)
 
 pub returns-then-none_nearer : goal.returns-then-none_nearer
 returns-then-none_nearer c =
@@ -31,8 +30,8 @@ loop-j-preserved c =
     let on = until_on a.n c.loop-j.j c.loop-j-test.true (is_nearer a.n t a.s a.at) (λ k. none_nearer (apart a.s (state_at t k))) c.loop-j.found (ap none_nearer (sym i.1) ∙ sym c.none_nearer.ensures ∙ c.if-none_nearer.false) in
     let said = c.is_nearer.ensures in
     elim c.if-is_nearer.branch [
-      | then-is_nearer w ↦ (rw w.found-is (sym (on true (rw (← i.1) (sym said ∙ w.if-is_nearer.true))) ∙ i.0), rw (w.found-is, w.near-is) (w.apart-near-then-is_nearer.ensures ∙ ap (apart a.s) w.load-then-is_nearer.ensures), search rules)
-      | else-is_nearer w ↦ (rw w.found-is (sym (on false (rw (← i.1) (sym said ∙ w.if-is_nearer.false))) ∙ i.0), rw (w.found-is, w.near-is) i.1, search rules)
+      | then-is_nearer w ↦ (rw w.found-is (sym (on true (rw (← i.1) (sym said ∙ w.if-is_nearer.true))) ∙ i.0), rw (w.found-is, w.near-is) (w.apart-near-then-is_nearer.ensures ∙ ap (apart a.s) w.load-then-is_nearer.ensures))
+      | else-is_nearer w ↦ (rw w.found-is (sym (on false (rw (← i.1) (sym said ∙ w.if-is_nearer.false))) ∙ i.0), rw (w.found-is, w.near-is) i.1)
     ]
 
 pub returns : goal.returns

@@ -2,7 +2,6 @@
 use mathlib.Core.Path.{refl, sym, ap, ap₂, ◌∙◌}
 use mathlib.Core.Bool.{true, false}
 use native.Mathlib.Numerals.{add-one}
-use borrow.Author.Rules.{rules}
 use Rattle.rules.specs.Table.{state_at}
 use Rattle.rules.specs.Fold.{sharing, apart}
 use Rattle.words.specs.Tables.{table_of}
@@ -19,7 +18,6 @@ loop-j-init c =
       rw (add-one c.first_other-partner.result, e.0) refl,
       c.sharing-most.ensures ∙ ap (sharing a.s) c.load-first.ensures,
       c.apart-near.ensures ∙ ap (apart a.s) c.load-first.ensures,
-      search rules,
     )
 
 pub returns-then-is_unbeaten : goal.returns-then-is_unbeaten
@@ -42,13 +40,11 @@ loop-j-preserved c =
         rw w.partner-is (sym (on true (rw (← i.1, ← i.2) (sym said ∙ w.if-is_closer.true))) ∙ i.0),
         rw (w.partner-is, w.most-is) (w.sharing-most-then-is_closer.ensures ∙ ap (sharing a.s) w.load-t.ensures),
         rw (w.partner-is, w.near-is) (w.apart-near-then-is_closer.ensures ∙ ap (apart a.s) w.load-t.ensures),
-        search rules,
       )
       | else-is_closer w ↦ (
         rw w.partner-is (sym (on false (rw (← i.1, ← i.2) (sym said ∙ w.if-is_closer.false))) ∙ i.0),
         rw (w.partner-is, w.most-is) i.1,
         rw (w.partner-is, w.near-is) i.2,
-        search rules,
       )
     ]
 

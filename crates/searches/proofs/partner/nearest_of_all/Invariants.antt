@@ -1,6 +1,6 @@
 -- `nearest_of_all` searches place by place. The invariant of its loop: from the best so far and place `j` on it comes to the same place.
 use mathlib.Core.Path.{◌≡◌}
-use Prim.Native.Nat.{◌-◌, ◌≤◌}
+use Prim.Native.Nat.{◌-◌}
 use Rattle.rules.specs.Table.{state_at}
 use Rattle.rules.specs.Fold.{sharing, apart}
 use Rattle.words.specs.Tables.{table_of}
@@ -13,7 +13,3 @@ invariant-loop-j l =
     ≡ nearest_of_all l.n (table_of l.words) l.s l.at l.bound)
     × (l.most ≡ sharing l.s (state_at (table_of l.words) l.partner))
     × (l.near ≡ apart l.s (state_at (table_of l.words) l.partner))
-    × (l.j ≤ l.n)
-
-abbrev pub decreases-loop-j : goal.decreases-loop-j
-decreases-loop-j l = l.n - l.j

@@ -1,13 +1,10 @@
 -- `word_of` makes the word number by number.
-use Rattle.std.proofs.Common.{refl, arith, lit<, rules}
+use Rattle.std.proofs.Common.{arith}
 use Rattle.states.proofs.Numbers.{word_fits, number_small, word_short, word_next, word_end}
 use Rattle.states.proofs.filled.word_of.Goals as goal
 
-pub loop-i-init : goal.loop-i-init
-loop-i-init c = (search rules, lit< tt, refl)
-
 pub overflow_mul-word : goal.overflow_mul-word
-overflow_mul-word c = let l = c.loop-i in omega (arith, word_fits l.word l.i l.invariant.1 c.loop-i-test.true)
+overflow_mul-word c = let l = c.loop-i in omega (arith, word_fits l.word l.i l.invariant.0 c.loop-i-test.true)
 
 pub overflow_add-word : goal.overflow_add-word
 overflow_add-word c =
@@ -15,20 +12,19 @@ overflow_add-word c =
     let a = c.args in
     omega (
       arith,
-      word_fits l.word l.i l.invariant.1 c.loop-i-test.true,
-      number_small a.sets a.n c.requires.1 a.first c.requires.0 l.word l.i l.invariant.1 c.loop-i-test.true _ l.invariant.2 c.requires.2 _ c.number_if.ensures,
+      word_fits l.word l.i l.invariant.0 c.loop-i-test.true,
+      number_small a.sets a.n c.requires.1 a.first c.requires.0 l.word l.i l.invariant.0 c.loop-i-test.true _ l.invariant.1 c.requires.2 _ c.number_if.ensures,
     )
 
 pub loop-i-preserved : goal.loop-i-preserved
 loop-i-preserved c =
     let l = c.loop-i in
     let a = c.args in (
-      search rules,
-      word_short a.sets a.n c.requires.1 a.first c.requires.0 l.word l.i l.invariant.1 c.loop-i-test.true _ l.invariant.2 c.requires.2 _ c.number_if.ensures,
-      word_next a.sets a.n c.requires.1 a.first c.requires.0 l.word l.i l.invariant.1 c.loop-i-test.true _ l.invariant.2 c.requires.2 _ c.number_if.ensures,
+      word_short a.sets a.n c.requires.1 a.first c.requires.0 l.word l.i l.invariant.0 c.loop-i-test.true _ l.invariant.1 c.requires.2 _ c.number_if.ensures,
+      word_next a.sets a.n c.requires.1 a.first c.requires.0 l.word l.i l.invariant.0 c.loop-i-test.true _ l.invariant.1 c.requires.2 _ c.number_if.ensures,
     )
 
 pub returns : goal.returns
 returns c =
     let l = c.loop-i in
-    word_end c.args.sets c.args.n c.requires.1 c.args.first c.requires.0 l.word l.i c.loop-i-test.false _ l.invariant.2
+    word_end c.args.sets c.args.n c.requires.1 c.args.first c.requires.0 l.word l.i c.loop-i-test.false _ l.invariant.1

@@ -1,14 +1,14 @@
--- `all_small` meets its contract.
-use native.Mathlib.Omega.{arith}
-use borrow.Author.Rules.{rules}
-use Rattle.table_check.proofs.Fitting.{numbers_next, number_large, numbers_end}
+-- `all_small` meets its contract: the bytes of the word are its numbers.
+use Rattle.std.proofs.Common.{rules, tests, sym, ◌∙◌, leb, ap}
+use Rattle.std.specs.Int.{w64, to_be_bytes}
+use Rattle.std.proofs.lemmas.Iterator.{YieldsList-from_slice}
+use Rattle.std.proofs.lemmas.Iterator.Search.{all_from_yields_List}
+use Rattle.rules.specs.Questions.{all_most}
+use Rattle.table_check.proofs.Fitting.{word_bytes, all_bytes}
 use Rattle.table_check.proofs.one_state.all_small.Goals as goal
 
-pub returns-then-left-gt16 : goal.returns-then-left-gt16
-returns-then-left-gt16 c = number_large _ _ _ c.loop-n.invariant.1 c.loop-n-test.true c.if-left-gt16.true
-
-pub loop-n-preserved : goal.loop-n-preserved
-loop-n-preserved c = (search rules, numbers_next _ _ _ c.loop-n.invariant.1 c.loop-n-test.true (omega arith))
-
 pub returns : goal.returns
-returns c = numbers_end _ _ _ c.loop-n.invariant.1 c.loop-n-test.false
+returns c =
+    let w = c.args.word in
+    all_from_yields_List (λ n. leb n 16) _ _ _ c.all.ensures.ran (YieldsList-from_slice (to_be_bytes w64 w) (cc)) (λ x b q k. search (rules, tests))
+    ∙ sym (ap (all_most 16) (word_bytes w) ∙ all_bytes (to_be_bytes w64 w))

@@ -10,13 +10,13 @@ pub overflow_add-result : goal.overflow_add-result
 overflow_add-result c =
     let s = c.spread_in in
     let T = take c.args.states (table_of c.args.res.now) in
-    let found = last_counted T c.requires.0 _ c.requires.1 _ _ s.ensures c.in-Misses.last c.in-Misses.is in
+    let found = last_counted T c.requires.0 _ c.requires.1 _ _ s.ensures c.in-Ok.last c.in-Ok.is in
     omega (arith, found.count, table_largest T c.requires.0)
 
-pub returns-in-Misses : goal.returns-in-Misses
-returns-in-Misses c =
-    last_counted _ c.requires.0 _ c.requires.1 _ _ c.spread_in.ensures _ c.in-Misses.is
+pub returns-in-Ok : goal.returns-in-Ok
+returns-in-Ok c =
+    last_counted _ c.requires.0 _ c.requires.1 _ _ c.spread_in.ensures _ c.in-Ok.is
 
-pub returns-in-Refused : goal.returns-in-Refused
-returns-in-Refused c =
-    absurd (not_refused _ c.requires.0 _ c.requires.1 _ _ c.spread_in.ensures _ c.in-Refused.is)
+pub returns-in-Err : goal.returns-in-Err
+returns-in-Err c =
+    absurd (not_refused _ c.requires.0 _ c.requires.1 _ _ c.spread_in.ensures _ c.in-Err.is)

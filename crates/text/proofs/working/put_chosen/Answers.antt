@@ -9,21 +9,21 @@ use Rattle.text.proofs.working.put_chosen.Goals as goal
 
 pub slice_bounds-put_numbers-count : goal.slice_bounds-put_numbers-count
 slice_bounds-put_numbers-count c =
-    omega (arith, chosen_long _ _ (sym c.in-Cache.is ∙ c.choice_in.ensures))
+    omega (arith, chosen_long _ _ (sym c.in-Some.is ∙ c.choice_in.ensures))
 
 pub slice_bounds-put_numbers-start : goal.slice_bounds-put_numbers-start
 slice_bounds-put_numbers-start c =
-    omega (arith, chosen_long _ _ (sym c.in-Cache.is ∙ c.choice_in.ensures))
+    omega (arith, chosen_long _ _ (sym c.in-Some.is ∙ c.choice_in.ensures))
 
-pub returns-in-Nothing : goal.returns-in-Nothing
-returns-in-Nothing c =
+pub returns-in-None : goal.returns-in-None
+returns-in-None c =
     let ns = c.args.numbers.now in
-    let none = nothing_chosen ns (sym c.in-Nothing.is ∙ c.choice_in.ensures) in
+    let none = nothing_chosen ns (sym c.in-None.is ∙ c.choice_in.ensures) in
     wrote_refused _ _ _ _ _ (unchosen_unworked ns none) (put_is _ _ _ _ _ _ c.put_refused.ensures (printed_unchosen ns none _)) refl refl refl
 
-pub returns-in-Cache : goal.returns-in-Cache
-returns-in-Cache c =
+pub returns-in-Some : goal.returns-in-Some
+returns-in-Some c =
     let ns = c.args.numbers.now in
-    let e = sym c.in-Cache.is ∙ c.choice_in.ensures in
+    let e = sym c.in-Some.is ∙ c.choice_in.ensures in
     wrote_same _ _ _ _ _ _ _ c.put_numbers.ensures (chosen_worked_lem ns (is_chosen ns _ e) _ (chosen_is ns _ e))
     (printed_chosen ns (is_chosen ns _ e) _ (chosen_is ns _ e) _)

@@ -8,4 +8,4 @@ put_wanted-end-requires c = c.requires
 pub returns : goal.returns
 returns c =
     let put = c.put_wanted-end in
-    (put.ensures, c.clear.ensures, cleared _ put.new.counts _ c.clear-2.ensures put.auto.counts)
+    (put.ensures, (c.fill.ensures.after (λ y p. p)), cleared _ put.new.counts _ (c.fill-2.ensures.after (λ y p. p)) put.auto.counts)

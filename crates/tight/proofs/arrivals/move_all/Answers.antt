@@ -13,6 +13,3 @@ pub returns : goal.returns
 returns c =
     let a = c.args in
     rest_came a.ways a.x a.live a.t a.s a.work.now c.requires.0 c.requires.1 a.s.count _ (le_refl a.s.count) c.move_rows.ensures refl _ c.move_rest.ensures
-
-pub move_rows-requires : goal.move_rows-requires
-move_rows-requires c = let p = c.requires in (p.0, p.1)

@@ -2,15 +2,9 @@
 use native.Mathlib.Nat.{le_refl}
 use Rattle.rules.specs.Contents.{with}
 use Rattle.tight_rows.proofs.Raising.{live_part}
-use Rattle.tight.proofs.RowsMoved.{rest_moved_on}
 use Rattle.tight.proofs.arrivals.move_rest.Goals as goal
 
 pub move_to-requires : goal.move_to-requires
 move_to-requires c =
     let a = c.args in
     (rw c.rest_route-r.ensures c.requires.1, live_part (with 0 a.x.place) a.live _ c.comes_to-end.ensures, le_refl 1)
-
-pub returns : goal.returns
-returns c =
-    let a = c.args in
-    rest_moved_on a.x a.live a.t a.s a.work.now _ _ _ c.rest_route-r.ensures c.comes_to-end.ensures c.move_to.ensures

@@ -1,12 +1,6 @@
 -- `move_rows` goes through the rows. The invariant of its loop: the rows passed have come to where they go.
-use mathlib.Core.Path.{◌≡◌}
-use Prim.Native.Nat.{◌-◌, ◌≤◌}
-use lib.ListN.{length}
 use Rattle.tight.proofs.RowsMoved.{MovedTo}
 use Rattle.tight.proofs.arrivals.move_rows.Given as goal
 
 abbrev pub invariant-loop-k : goal.invariant-loop-k
-invariant-loop-k l = (l.k ≤ l.s.count) × (length l.work ≡ length l.initial.work) × MovedTo l.ways l.x l.live l.t l.s l.initial.work l.k l.work
-
-abbrev pub decreases-loop-k : goal.decreases-loop-k
-decreases-loop-k l = l.s.count - l.k
+invariant-loop-k l = MovedTo l.ways l.x l.live l.t l.s l.initial.work l.k l.work

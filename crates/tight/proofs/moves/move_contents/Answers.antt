@@ -1,18 +1,11 @@
 -- `move_contents` moves the whole row to one mask, or goes on to a miss.
 use mathlib.Core.Path.{refl, sym, ◌∙◌}
-use Prim.Native.Nat.{zero-le}
 use native.Mathlib.Nat.{le_refl}
 use Rattle.rules.specs.Contents.{shared, with}
 use Rattle.tables.proofs.Masks.{has_listed}
 use Rattle.tight_rows.proofs.Raising.{live_part}
 use Rattle.tight.proofs.Moving.{hit_came, safe_came, row_moved}
 use Rattle.tight.proofs.moves.move_contents.Goals as goal
-
-pub move_to-requires : goal.move_to-requires
-unfolding shared
-move_to-requires c =
-    let a = c.args in
-    (rw c.choosing.ensures c.requires.5, live_part a.mask a.live _ refl, zero-le)
 
 pub returns-then-has_block : goal.returns-then-has_block
 unfolding shared
@@ -33,9 +26,6 @@ returns-then-mask-x-eq0 c =
     let a = c.args in
     safe_came a.ways a.x a.live a.r a.keep a.all a.mask a.work.now _ _ c.choosing-then-mask-x-eq0.ensures _
     (sym (has_listed a.mask a.x.place c.requires.0 _ _ c.has_block.ensures) ∙ c.if-has_block.false) c.if-mask-x-eq0.true c.comes_to-end.ensures c.move_to-then-mask-x-eq0.ensures
-
-pub move_miss-requires : goal.move_miss-requires
-move_miss-requires c = let p = c.requires in (p.0, p.1, p.2, p.3, p.4)
 
 pub returns : goal.returns
 unfolding shared

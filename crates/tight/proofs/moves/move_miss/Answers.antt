@@ -6,17 +6,12 @@ use native.Mathlib.Omega.{arith}
 use Rattle.rules.specs.Contents.{shared, with}
 use Rattle.tight.specs.Moving.{choosing}
 use Rattle.tight_rows.proofs.Raising.{live_part}
-use Rattle.tight.proofs.Moving.{lost_first, second_ready, third_ready, third_came}
+use Rattle.tight.proofs.Moving.{second_ready, third_ready, third_came}
 use Rattle.tight.proofs.moves.move_miss.Goals as goal
 
 pub overflow_sub-others : goal.overflow_sub-others
 unfolding shared
 overflow_sub-others c = omega (arith, c.size_of.ensures, c.requires.2)
-
-pub move_lost-requires : goal.move_lost-requires
-move_lost-requires c =
-    let a = c.args in
-    (c.requires.0, lost_first a.ways a.x a.live a.r a.keep a.mask a.work.now c.requires.1 c.requires.3 c.requires.4)
 
 pub move_to-requires : goal.move_to-requires
 unfolding shared

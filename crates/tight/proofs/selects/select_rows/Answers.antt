@@ -1,17 +1,6 @@
 -- `select_rows` writes the three rows, one after the other.
-use native.Mathlib.Omega.{arith}
 use Rattle.tight.proofs.CellsChosen.{selected}
 use Rattle.tight.proofs.selects.select_rows.Goals as goal
-
-pub select_losing-requires : goal.select_losing-requires
-select_losing-requires c =
-    let p = c.requires in
-    (p.sets, p.front, p.back, omega (arith, p.first, p.second, p.third))
-
-pub select_others-requires : goal.select_others-requires
-select_others-requires c =
-    let p = c.requires in
-    (p.first, omega (arith, p.second, p.third, c.select_losing.ensures.long))
 
 pub returns : goal.returns
 returns c =

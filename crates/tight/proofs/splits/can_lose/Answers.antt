@@ -2,13 +2,8 @@
 use mathlib.Core.Path.{sym, ◌∙◌}
 use Rattle.rules.specs.Contents.{shared}
 use Rattle.tables.proofs.Masks.{has_listed}
-use Rattle.tight.proofs.RowsSplit.{hit_keeps, safe_keeps, loses}
+use Rattle.tight.proofs.RowsSplit.{safe_keeps, loses}
 use Rattle.tight.proofs.splits.can_lose.Goals as goal
-
-pub returns-then-has_block : goal.returns-then-has_block
-returns-then-has_block c =
-    let a = c.args in
-    hit_keeps a.x a.mask (sym (has_listed a.mask a.x.place c.requires _ _ c.has_block.ensures) ∙ c.if-has_block.true)
 
 pub returns-then-mask-x-eq0 : goal.returns-then-mask-x-eq0
 unfolding shared

@@ -1,32 +1,30 @@
 -- `put_groups` goes cell by cell.
-use mathlib.Core.Path.{refl}
 use native.Mathlib.Omega.{arith}
-use borrow.Author.Rules.{rules}
 use Rattle.tight.proofs.ColumnsCounted.{grouped_start, all_grouped, grouped_next}
 use Rattle.tight.proofs.stages.put_groups.Goals as goal
 
 pub loop-j-init : goal.loop-j-init
 loop-j-init c =
     let a = c.args in
-    (search rules, refl, grouped_start a.ways a.cells a.stage a.x a.fronts a.backs a.width a.work.now c.requires.3)
+    grouped_start a.ways a.cells a.stage a.x a.fronts a.backs a.width a.work.now c.requires.3
 
 pub put_group-requires : goal.put_group-requires
 put_group-requires c =
     let p = c.requires.3 in
-    omega (arith, p.narrow, p.inside, c.loop-j-test.true, c.loop-j.invariant.1)
+    omega (arith, p.narrow, p.inside, c.loop-j-test.true, c.loop-j.invariant.long)
 
 pub loop-j-preserved : goal.loop-j-preserved
 loop-j-preserved c =
     let a = c.args in
-    let next = grouped_next a.ways a.cells a.stage a.x a.fronts a.backs a.width a.work.now c.requires.3 c.loop-j.j c.loop-j.work c.loop-j-test.true c.loop-j.invariant.2 _ _
+    let next = grouped_next a.ways a.cells a.stage a.x a.fronts a.backs a.width a.work.now c.requires.3 c.loop-j.j c.loop-j.work c.loop-j-test.true c.loop-j.invariant _ _
     c.filled_at-f.ensures c.filled_after.ensures in
-    rw c.put_group.ensures (search rules, next.long, next)
+    rw c.put_group.ensures next
 
 pub returns : goal.returns
 returns c =
     let a = c.args in
     let l = c.loop-j in
-    all_grouped a.ways a.cells a.stage a.x a.fronts a.backs a.width a.work.now c.requires.3 l.j _ (omega arith) l.invariant.2
+    all_grouped a.ways a.cells a.stage a.x a.fronts a.backs a.width a.work.now c.requires.3 l.j _ (omega arith) l.invariant
 
 pub overflow_add-fronts : goal.overflow_add-fronts
 overflow_add-fronts c = let p = c.requires.3 in omega (arith, p.front, p.inside, c.loop-j-test.true)

@@ -1,12 +1,6 @@
 -- `stage_rows` goes through the rows. The invariant of its loop: the rows passed are added.
-use mathlib.Core.Path.{◌≡◌}
-use Prim.Native.Nat.{◌-◌, ◌≤◌}
-use lib.ListN.{length}
 use Rattle.tight.specs.Grouping.{CountedTo}
 use Rattle.tight.proofs.stages.stage_rows.Given as goal
 
 abbrev pub invariant-loop-k : goal.invariant-loop-k
-invariant-loop-k l = (l.k ≤ l.s.count) × (length l.work ≡ length l.initial.work) × CountedTo l.cells l.stage l.x l.s l.k l.initial.work l.work
-
-abbrev pub decreases-loop-k : goal.decreases-loop-k
-decreases-loop-k l = l.s.count - l.k
+invariant-loop-k l = CountedTo l.cells l.stage l.x l.s l.k l.initial.work l.work

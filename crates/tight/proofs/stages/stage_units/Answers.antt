@@ -1,5 +1,4 @@
 -- `stage_units` clears both rows, and adds the rows of the table to them.
-use native.Mathlib.Omega.{arith}
 use Rattle.tight.proofs.ColumnsCounted.{double, cleared_counting, cleared_fits, units_staged}
 use Rattle.tight.proofs.stages.stage_units.Goals as goal
 
@@ -15,12 +14,3 @@ pub returns : goal.returns
 returns c =
     let a = c.args in
     units_staged a.cells a.stage a.x a.s a.work.now _ c.requires.1 _ (double a.cells) c.clear_row.ensures _ c.stage_rows.ensures
-
-pub overflow_add-cells : goal.overflow_add-cells
-overflow_add-cells c = let p = c.requires.1 in omega (arith, p.behind, p.all_end)
-
-pub overflow_mul-cells : goal.overflow_mul-cells
-overflow_mul-cells c = let p = c.requires.1 in omega (arith, p.behind, p.all_end)
-
-pub clear_row-requires : goal.clear_row-requires
-clear_row-requires c = let p = c.requires.1 in omega (arith, p.behind, p.all_end)

@@ -4,7 +4,7 @@ use Rattle.rules.specs.Contents.{with, shared}
 use Rattle.tables.proofs.Masks.{has_listed}
 use Rattle.tight_rows.proofs.Raising.{live_part}
 use Rattle.tight_rows.proofs.Totals.{more_plain}
-use Rattle.tight.proofs.Summing.{all_fits, without_hit, hit_summed, safe_summed, row_summed}
+use Rattle.tight.proofs.Summing.{all_fits, hit_summed, safe_summed, row_summed}
 use Rattle.tight.proofs.sums.sum_contents.Goals as goal
 
 pub returns-then-has_block : goal.returns-then-has_block
@@ -25,17 +25,9 @@ returns-then-mask-x-eq0 c =
     (safe_summed a.ways a.x a.plan a.live a.mask a.all a.part a.stay a.work.now c.requires
     (sym (has_listed a.mask a.x.place c.requires.placed _ _ c.has_block.ensures) ∙ c.if-has_block.false) c.if-mask-x-eq0.true _ c.comes_to-end.ensures)
 
-pub sum_miss-requires : goal.sum_miss-requires
-sum_miss-requires c =
-    let a = c.args in
-    without_hit a.ways a.x a.plan a.live a.mask a.all a.part a.stay a.work.now c.requires
-
 pub returns : goal.returns
 unfolding shared
 returns c =
     let a = c.args in
     row_summed a.ways a.x a.plan a.live a.mask a.all a.part a.stay a.work.now c.requires
     (sym (has_listed a.mask a.x.place c.requires.placed _ _ c.has_block.ensures) ∙ c.if-has_block.false) c.if-mask-x-eq0.false _ c.sum_miss.ensures
-
-pub comes_to-end-requires : goal.comes_to-end-requires
-comes_to-end-requires c = c.requires.placed

@@ -5,7 +5,7 @@ use native.Mathlib.Omega.{arith}
 use Rattle.rules.specs.Contents.{with, shared}
 use Rattle.tight_rows.proofs.Raising.{live_part}
 use Rattle.tight_rows.proofs.Totals.{more_plain}
-use Rattle.tight.proofs.Summing.{kept_part_fits, kept_fits, lost_all_fits, kept_sum_fits, miss_summed}
+use Rattle.tight.proofs.Summing.{kept_part_fits, kept_fits, kept_sum_fits, miss_summed}
 use Rattle.tight.proofs.sums.sum_miss.Goals as goal
 
 pub overflow_sub-kept : goal.overflow_sub-kept
@@ -24,11 +24,6 @@ overflow_add-kept c =
     let a = c.args in
     record { fits = rw c.size_of.ensures (kept_fits a.ways a.x a.plan a.live a.mask 0 a.part a.stay a.work.now c.requires) }
 
-pub sum_lost-requires : goal.sum_lost-requires
-sum_lost-requires c =
-    let a = c.args in
-    (c.requires.placed, c.requires.room, lost_all_fits a.ways a.x a.plan a.live a.mask 0 a.part a.stay a.work.now c.requires)
-
 pub returns : goal.returns
 unfolding shared
 returns c =
@@ -40,6 +35,3 @@ returns c =
     rw put
     (miss_summed a.ways a.x a.plan a.live a.mask 0 a.part a.stay a.work.now c.requires _ c.sum_lost.ensures _ _ c.comes_to-end.ensures
     (ap (λ (n : ℕ). (a.ways - n) * a.part + a.stay) c.size_of.ensures))
-
-pub comes_to-end-requires : goal.comes_to-end-requires
-comes_to-end-requires c = c.requires.placed

@@ -5,7 +5,7 @@ use Rattle.rules.specs.Contents.{shared, with}
 use Rattle.tables.proofs.Masks.{has_there, without_there}
 use Rattle.tight_rows.proofs.Raising.{live_part}
 use Rattle.tight_rows.proofs.Totals.{more_plain}
-use Rattle.tight.proofs.Summing.{one_lost, none_lost}
+use Rattle.tight.proofs.Summing.{one_lost}
 use Rattle.tight.proofs.sums.sum_one.Goals as goal
 
 pub returns-then-has_place : goal.returns-then-has_place
@@ -15,8 +15,3 @@ returns-then-has_place c =
     rw put
     (one_lost a.plan a.mask a.risk a.x a.live a.units a.at _ a.work.now (sym (has_there _ _ c.requires.1 _ c.has_place.ensures) ∙ c.if-has_place.true)
     (c.comes_to-end.ensures ∙ ap (λ (C : ℕ). shared (with C a.x.place) a.live) (without_there _ _ c.requires.1 _ c.without_place.ensures)) c.requires.2)
-
-pub returns : goal.returns
-returns c =
-    let a = c.args in
-    none_lost a.plan a.mask a.risk a.x a.live a.units a.at a.work.now (sym (has_there _ _ c.requires.1 _ c.has_place.ensures) ∙ c.if-has_place.false)

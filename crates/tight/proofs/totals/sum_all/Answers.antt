@@ -1,13 +1,9 @@
 -- `sum_all` clears the sums, adds the rows, and then what is left over.
-use native.Mathlib.Omega.{arith}
 use Rattle.rules.specs.Contents.{with}
 use Rattle.tight_rows.proofs.Raising.{live_part}
 use Rattle.tight_rows.proofs.Totals.{more_plain}
 use Rattle.tight.proofs.RowsSummed.{ready_there, ready, rest_fits, totalled}
 use Rattle.tight.proofs.totals.sum_all.Goals as goal
-
-pub row_sum-left-requires : goal.row_sum-left-requires
-row_sum-left-requires c = let p = c.requires in (p.rest_end, p.all_end, omega (arith, p.fits))
 
 pub sum_rows-requires : goal.sum_rows-requires
 sum_rows-requires c =
@@ -25,6 +21,3 @@ returns c =
     (rest_fits a.ways a.x a.live a.s a.plan a.masks a.work.now c.requires _ c.clear_row.ensures _ c.sum_rows.ensures _ _ low c.row_sum-left.ensures) in
     rw put
     (totalled a.ways a.x a.live a.s a.plan a.masks a.work.now c.requires _ c.clear_row.ensures _ c.sum_rows.ensures _ _ c.comes_to-end.ensures c.row_sum-left.ensures)
-
-pub comes_to-end-requires : goal.comes_to-end-requires
-comes_to-end-requires c = c.requires.placed

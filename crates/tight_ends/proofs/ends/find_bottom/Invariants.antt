@@ -1,5 +1,4 @@
 -- `find_bottom` goes up column by column. The invariant of its loop: what is below must rise.
-use Prim.Native.Nat.{◌-◌}
 use Rattle.tight_rows.specs.Room.{words_of}
 use Rattle.tight_ends.specs.Stage.{groups_of}
 use Rattle.tight_ends.specs.Settling.{both}
@@ -8,6 +7,3 @@ use Rattle.tight_ends.proofs.ends.find_bottom.Given as goal
 
 abbrev pub invariant-loop-bottom : goal.invariant-loop-bottom
 invariant-loop-bottom l = Bottoming (both (groups_of l.cells l.stage (words_of l.work))) l.cells l.top l.bottom l.low
-
-abbrev pub decreases-loop-bottom : goal.decreases-loop-bottom
-decreases-loop-bottom l = l.top - l.bottom

@@ -5,8 +5,5 @@ use Rattle.tight_ends.specs.Settling.{both}
 use Rattle.tight_ends.proofs.EndsFound.{Topping}
 use Rattle.tight_ends.proofs.ends.find_top.Given as goal
 
-abbrev pub invariant-loop-top : goal.invariant-loop-top
-invariant-loop-top l = Topping (both (groups_of l.cells l.stage (words_of l.work))) l.width l.top l.gone
-
-abbrev pub decreases-loop-top : goal.decreases-loop-top
-decreases-loop-top l = l.top
+abbrev pub invariant-loop-j : goal.invariant-loop-j
+invariant-loop-j l = Topping (both (groups_of l.cells l.stage (words_of l.work))) l.width l.j l.gone

@@ -1,6 +1,4 @@
 -- `keep_row` gathers the row, and writes its contents and units where there are any.
-use native.Mathlib.Omega.{arith}
-use lib.ListN.{length-set}
 use Rattle.tight_rows.proofs.Totals.{plain}
 use Rattle.tight_ends.proofs.RowsKept.{may_gather_at, sum_at_lem, none_at, some_at}
 use Rattle.tight_ends.proofs.ends.keep_row.Goals as goal
@@ -17,10 +15,6 @@ returns-then-units-eq0 c =
     c.gather_row.ensures _ (plain _ _ c.sum_of-units.ensures
     (sum_at_lem a.contents a.cells a.slot a.bottom a.width a.k a.to a.work.now c.requires _ _ c.row_place-from.ensures c.row_place-row.ensures _
     c.gather_row.ensures)) c.if-units-eq0.true
-
-pub bounds-work-slot-3 : goal.bounds-work-slot-3
-bounds-work-slot-3 c =
-    simp length-set (omega (arith, c.gather_row.ensures.long, c.requires.inside, c.requires.row, c.requires.up))
 
 pub returns : goal.returns
 returns c =

@@ -1,17 +1,6 @@
 -- `end_slot` keeps the rows, writes their filled numbers, and then the header.
-use Rattle.tight_ends.proofs.Ended.{may_fill_lem, may_head, slot_ended}
+use Rattle.tight_ends.proofs.Ended.{slot_ended}
 use Rattle.tight_ends.proofs.row_ends.end_slot.Goals as goal
-
-pub put_all_filled-requires : goal.put_all_filled-requires
-put_all_filled-requires c =
-    let a = c.args in
-    may_fill_lem a.contents a.cells a.slot a.stage a.bottom a.top a.gone a.work.now c.requires.0 c.requires.1 c.requires.2 c.requires.3 _ c.keep_rows-rows.new.work c.keep_rows-rows.ensures
-
-pub put_header-requires : goal.put_header-requires
-put_header-requires c =
-    let a = c.args in
-    may_head a.contents a.cells a.slot a.stage a.bottom a.top a.gone a.work.now c.requires.0 c.requires.1 c.requires.2 c.requires.3 _ c.keep_rows-rows.new.work c.keep_rows-rows.ensures
-    c.put_all_filled.new.work c.put_all_filled.ensures
 
 pub returns : goal.returns
 returns c =

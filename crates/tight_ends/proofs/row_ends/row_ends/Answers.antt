@@ -14,8 +14,5 @@ returns c =
     rows_ended a.contents a.cells a.slot a.stage a.work.now c.requires _ _ c.find_top-high.ensures _ _ c.find_bottom-low.ensures c.end_slot.new.work c.end_slot.ensures _
     c.unlike_to-unlike.ensures
 
-pub overflow_add-result : goal.overflow_add-result
-overflow_add-result c = record { fits = omega (arith, (returns c).most) }
-
 pub overflow_add-result-2 : goal.overflow_add-result-2
 overflow_add-result-2 c = record { fits = omega (arith, (returns c).most) }

@@ -1,15 +1,7 @@
 -- `unlike` reads both groups.
 use Rattle.tight_rows.specs.Room.{words_of}
-use Rattle.tight_ends.proofs.FilledFound.{unlike_is, unlike_fits}
+use Rattle.tight_ends.proofs.FilledFound.{unlike_is}
 use Rattle.tight_ends.proofs.settle.unlike.Goals as goal
-
-pub overflow_add-result : goal.overflow_add-result
-overflow_add-result c =
-    let a = c.args in
-    record {
-      fits = unlike_fits a.cells a.stage a.j a.work.now a.f _ c.requires
-          (unlike_is a.cells a.stage a.j (words_of a.work.now) _ _ c.filled_at-hit.ensures c.filled_at-missed.ensures a.f _ _ c.changed_units.ensures c.changed_units-2.ensures);
-    }
 
 pub returns : goal.returns
 returns c =

@@ -2,7 +2,6 @@
 use mathlib.Core.Path.{◌≡◌, refl, ap, ◌∙◌}
 use Prim.Native.Nat.{◌-◌}
 use native.Mathlib.Omega.{arith}
-use borrow.Author.Rules.{rules}
 use Rattle.tight_rows.specs.Room.{words_of}
 use Rattle.tight_ends.specs.Stage.{groups_of}
 use Rattle.tight_ends.specs.Settling.{settled_filled, unlike_to}
@@ -12,15 +11,7 @@ use Rattle.tight_ends.proofs.settle.unlike_to.Goals as goal
 
 pub loop-j-init : goal.loop-j-init
 unfolding unlike_to
-loop-j-init c = (search rules, refl)
-
-pub overflow_add-fronts : goal.overflow_add-fronts
-overflow_add-fronts c =
-    omega (arith, c.beyond-i.ensures, c.loop-j-test.true, c.requires.below, c.requires.front_end)
-
-pub overflow_add-backs : goal.overflow_add-backs
-overflow_add-backs c =
-    omega (arith, c.beyond-i.ensures, c.loop-j-test.true, c.requires.below, c.requires.back_end)
+loop-j-init c = refl
 
 pub unlike-sum-requires : goal.unlike-sum-requires
 unlike-sum-requires c =
@@ -31,19 +22,11 @@ unlike-sum-requires c =
 pub loop-j-preserved : goal.loop-j-preserved
 loop-j-preserved c =
     let a = c.args in
-    let i : c.beyond-i.result ≡ c.loop-j.j - a.bottom = c.beyond-i.ensures in (
-      search rules,
-      unlike_to_next _ a.bottom c.loop-j.j c.loop-j.sum _ _ c.loop-j.invariant.1
-          (c.filled_at-f.ensures ∙ c.requires.filled _ (omega (arith, i, c.loop-j-test.true, c.requires.below)) ∙ ap (settled_filled (groups_of a.cells a.stage (words_of a.work.now)) a.bottom) i) c.unlike-sum.ensures,
-    )
+    let i : c.beyond-i.result ≡ c.loop-j.j - a.bottom = c.beyond-i.ensures in
+    unlike_to_next _ a.bottom c.loop-j.j c.loop-j.sum _ _ c.loop-j.invariant
+    (c.filled_at-f.ensures ∙ c.requires.filled _ (omega (arith, c.requires.below)) ∙ ap (settled_filled (groups_of a.cells a.stage (words_of a.work.now)) a.bottom) i) c.unlike-sum.ensures
 
 pub overflow_add-sum : goal.overflow_add-sum
 overflow_add-sum c =
     let a = c.args in
-    record { fits = unlike_to_fits a.cells a.stage a.bottom a.top c.loop-j.j a.work.now _ c.loop-j-test.true c.requires.stage (loop-j-preserved c).1 }
-
-pub returns : goal.returns
-returns c =
-    let a = c.args in
-    let e : c.loop-j.j ≡ a.top = omega arith in
-    rw (← e) c.loop-j.invariant.1
+    record { fits = unlike_to_fits a.cells a.stage a.bottom a.top c.loop-j.j a.work.now _ c.loop-j-test.true c.requires.stage (loop-j-preserved c) }

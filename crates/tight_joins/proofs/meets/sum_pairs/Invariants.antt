@@ -1,7 +1,5 @@
 -- `sum_pairs` goes pair by pair. The invariant of its loop: the sums have the units of the pairs before pair k.
-use mathlib.Core.Path.{◌≡◌}
-use Prim.Native.Nat.{◌-◌, ◌≤◌}
-use lib.ListN.{length}
+use Prim.Native.Nat.{◌-◌}
 use Rattle.basics.proofs.Sums.{sum_to}
 use Rattle.tight_rows.specs.Room.{words_of, Leaves}
 use Rattle.tight_rows.specs.Rows.{raised}
@@ -9,8 +7,4 @@ use Rattle.tight_joins.specs.Meeting.{comes_by}
 use Rattle.tight_joins.proofs.meets.sum_pairs.Given as goal
 
 abbrev pub invariant-loop-k : goal.invariant-loop-k
-invariant-loop-k l =
-    (l.k ≤ l.n) × (length l.work ≡ length l.initial.work) × Leaves (raised l.plan (l.p.pairs - l.plan) (λ D. sum_to l.k (comes_by l.p (words_of l.initial.work) D))) l.initial.work l.work
-
-abbrev pub decreases-loop-k : goal.decreases-loop-k
-decreases-loop-k l = l.n - l.k
+invariant-loop-k l = Leaves (raised l.plan (l.p.pairs - l.plan) (λ D. sum_to l.k (comes_by l.p (words_of l.initial.work) D))) l.initial.work l.work

@@ -1,22 +1,12 @@
--- `fill_row` writes word by word, as far as there are words.
-use Rattle.std.proofs.Common.{refl, arith, rules}
-use Rattle.tight_rows.proofs.Writing.{none_written, one_more_lem, all_written, as_far}
+-- `fill_row` writes as many of the words as there are.
+use Rattle.std.proofs.Common.{◌≡◌, ◌+◌, ◌-◌, ◌∙◌, length, replicate, take, drop, ap, arith, rules, length-take, length-drop}
+use Rattle.tight_rows.proofs.Writing.{row_filled}
 use Rattle.tight_rows.proofs.rows.fill_row.Goals as goal
 
-pub loop-j-init : goal.loop-j-init
-loop-j-init c =
+pub returns-then-n-gt0 : goal.returns-then-n-gt0
+returns-then-n-gt0 c =
     let a = c.args in
-    (search rules, refl, c.there-n.ensures.inside, none_written a.at (λ w i. a.word) a.work.now)
-
-pub loop-j-preserved : goal.loop-j-preserved
-loop-j-preserved c =
-    let a = c.args in
-    (search rules, search rules, c.loop-j.invariant.2, one_more_lem a.at (λ w i. a.word) c.loop-j.j a.work.now c.loop-j.work a.word c.loop-j.invariant.3 (omega arith) refl)
-
-pub returns : goal.returns
-returns c =
-    let l = c.loop-j in
-    let there = c.there-n in
-    let a = c.args in
-    as_far a.at (λ w i. a.word) there.result a.width a.work.now _ there.ensures
-    (all_written a.at (λ w i. a.word) l.j there.result a.work.now _ (omega arith) l.invariant.3)
+    let n = c.there-n.result in
+    let part : length (take (a.at + n - a.at) (drop a.at a.work.now)) ≡ n = simp (length-take, length-drop) (omega (arith, c.there-n.ensures.inside)) in
+    row_filled a.at n (a.at + n - a.at) a.word a.work.now c.fill.new.self (omega arith) (c.fill.ensures.after (λ y p. p) ∙ ap (λ m. replicate m a.word) part)
+    (omega (arith, c.there-n.ensures.inside)) a.width c.there-n.ensures (search rules)

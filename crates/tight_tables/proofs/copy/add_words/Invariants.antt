@@ -1,14 +1,7 @@
 -- `add_words` adds word by word. The invariant of its loop: the words before the next one are sums of what stood there, and the others are as they were.
-use mathlib.Core.Path.{◌≡◌}
-use Prim.Native.Nat.{◌+◌, ◌-◌, ◌≤◌}
-use lib.ListN.{length}
 use Rattle.tight_tables.specs.Copying.{words_more}
 use Rattle.tight_rows.proofs.Writing.{Written}
 use Rattle.tight_tables.proofs.copy.add_words.Given as goal
 
 abbrev pub invariant-loop-j : goal.invariant-loop-j
-invariant-loop-j l =
-    (l.j ≤ l.width) × (length l.work ≡ length l.initial.work) × (l.from + l.width ≤ length l.initial.work) × (l.to + l.width ≤ length l.initial.work) × Written l.to (words_more l.from l.to) l.j l.initial.work l.work
-
-abbrev pub decreases-loop-j : goal.decreases-loop-j
-decreases-loop-j l = l.width - l.j
+invariant-loop-j l = Written l.to (words_more l.from l.to) l.j l.initial.work l.work

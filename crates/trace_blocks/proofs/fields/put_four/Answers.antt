@@ -1,19 +1,12 @@
--- `put_four` meets its contract: its four stores leave the bytes of the definition.
+-- `put_four` meets its contract: the number's bytes, the lowest first, are those of the definition.
+use mathlib.Core.Path.{refl, ◌∙◌}
 use native.Mathlib.Omega.{arith}
-use lib.ListN.{length-set}
 use Rattle.trace_blocks.specs.Written.{four_bytes}
-use Rattle.trace_blocks.proofs.Prefixes.{four_stored}
+use Rattle.trace_blocks.proofs.Prefixes.{part_stored, four_low_first}
 use Rattle.trace_blocks.proofs.fields.put_four.Goals as goal
-
-pub bounds-block-at-2 : goal.bounds-block-at-2
-bounds-block-at-2 c = simp length-set (omega arith)
-
-pub bounds-block-at-3 : goal.bounds-block-at-3
-bounds-block-at-3 c = simp length-set (omega arith)
-
-pub bounds-block-at-4 : goal.bounds-block-at-4
-bounds-block-at-4 c = simp length-set (omega arith)
 
 pub returns : goal.returns
 unfolding four_bytes
-returns c = four_stored _ _ _ _ _ _ c.requires
+returns c =
+    let a = c.args in
+    part_stored a.block.now _ _ _ a.at 4 (c.copy_from_slice.ensures.after ∙ c.to_le_bytes.ensures ∙ four_low_first a.x (omega (arith, c.ranges.x))) refl (omega (arith, c.requires))

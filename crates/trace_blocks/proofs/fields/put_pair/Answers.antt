@@ -1,13 +1,12 @@
--- `put_pair` meets its contract: its two stores leave the bytes of the definition.
+-- `put_pair` meets its contract: the number's bytes, the lowest first, are those of the definition.
+use mathlib.Core.Path.{refl, ◌∙◌}
 use native.Mathlib.Omega.{arith}
-use lib.ListN.{length-set}
 use Rattle.trace_blocks.specs.Written.{pair_bytes}
-use Rattle.trace_blocks.proofs.Prefixes.{two_stored}
+use Rattle.trace_blocks.proofs.Prefixes.{part_stored, pair_low_first}
 use Rattle.trace_blocks.proofs.fields.put_pair.Goals as goal
-
-pub bounds-block-at-2 : goal.bounds-block-at-2
-bounds-block-at-2 c = simp length-set (omega arith)
 
 pub returns : goal.returns
 unfolding pair_bytes
-returns c = two_stored _ _ _ _ c.requires.0
+returns c =
+    let a = c.args in
+    part_stored a.block.now _ _ _ a.at 2 (c.copy_from_slice.ensures.after ∙ c.to_le_bytes.ensures ∙ pair_low_first a.x c.requires.1) refl (omega (arith, c.requires.0))

@@ -1,12 +1,9 @@
 -- `weigh` meets its contract. The invariant of its loop: the sum so far and the weight of the bytes that are left come to that of all.
 use mathlib.Core.Path.{◌≡◌}
-use Prim.Native.Nat.{◌+◌, ◌-◌, ◌*◌, ◌≤◌}
-use lib.ListN.{length, drop}
+use Prim.Native.Nat.{◌+◌, ◌*◌, ◌≤◌}
+use lib.ListN.{drop}
 use Rattle.trace_blocks.specs.Blocks.{weighed}
 use Rattle.trace_blocks.proofs.fields.weigh.Given as goal
 
 abbrev pub invariant-loop-i : goal.invariant-loop-i
-invariant-loop-i l = (l.i ≤ length l.bytes) × (l.sum ≤ l.i * 130050) × (l.sum + weighed (l.i + 1) (drop l.i l.bytes) ≡ weighed 1 l.bytes)
-
-abbrev pub decreases-loop-i : goal.decreases-loop-i
-decreases-loop-i l = length l.bytes - l.i
+invariant-loop-i l = (l.sum ≤ l.i * 130050) × (l.sum + weighed (l.i + 1) (drop l.i l.bytes) ≡ weighed 1 l.bytes)

@@ -1,2 +1,0 @@
--- The count that a spread is of
-pub mod Counted

@@ -1,2 +1,0 @@
--- Rooms looked through
-pub mod Walked

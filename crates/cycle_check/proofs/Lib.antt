@@ -1,2 +1,0 @@
--- The largest miss count
-pub mod MostMisses

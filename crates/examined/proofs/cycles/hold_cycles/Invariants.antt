@@ -1,9 +1,0 @@
--- `hold_cycles` is safe and ends: each turn compares on one core. Assumes nothing.
-use Prim.Native.Nat.{◌≤◌, ◌-◌}
-use Rattle.examined.proofs.cycles.hold_cycles.Given as goal
-
-abbrev pub invariant-loop-core : goal.invariant-loop-core
-invariant-loop-core l = l.core ≤ 12
-
-abbrev pub decreases-loop-core : goal.decreases-loop-core
-decreases-loop-core l = 12 - l.core

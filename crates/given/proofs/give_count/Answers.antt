@@ -1,7 +1,0 @@
--- `give_count` gives 0 and the value, or the number of the refusal, as the definition does for each of the two.
-use mathlib.Core.Path.{sym, ap}
-use Rattle.given.specs.Answers.{count_given}
-use Rattle.given.proofs.give_count.Goals as goal
-
-pub returns-in-Refused : goal.returns-in-Refused
-returns-in-Refused c = rw c.number.ensures (ap (λ a. count_given a c.args.misses.now) (sym c.in-Refused.is))

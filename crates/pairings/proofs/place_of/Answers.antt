@@ -1,8 +1,0 @@
--- `place_of` reads one of the row's first two numbers.
-use Rattle.pairings.proofs.place_of.Goals as goal
-
-pub returns-then-second : goal.returns-then-second
-returns-then-second c = rw c.if-second.true
-
-pub returns : goal.returns
-returns c = rw c.if-second.false

@@ -1,9 +1,0 @@
--- `is_digit` meets its contract: below the first digit none, and from there on those up to the last.
-use borrow.Author.Tests.{le-leb, lt-leb}
-use Rattle.reading.proofs.is_digit.Goals as goal
-
-pub returns-then-b-lt48 : goal.returns-then-b-lt48
-returns-then-b-lt48 c = rw (lt-leb _ _ c.if-b-lt48.true)
-
-pub returns : goal.returns
-returns c = rw (le-leb _ _ c.if-b-lt48.false)

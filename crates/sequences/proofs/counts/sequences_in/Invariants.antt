@@ -1,9 +1,0 @@
--- `sequences_in` is safe and ends: each turn passes one cell. Assumes nothing.
-use Prim.Native.Nat.{◌≤◌, ◌-◌}
-use Rattle.sequences.proofs.counts.sequences_in.Given as goal
-
-abbrev pub invariant-loop-cell : goal.invariant-loop-cell
-invariant-loop-cell l = l.cell ≤ 256
-
-abbrev pub decreases-loop-cell : goal.decreases-loop-cell
-decreases-loop-cell l = 256 - l.cell
