@@ -7,16 +7,10 @@ use native.Mathlib.Decide.{ℕ_discrete}
 use native.Mathlib.Omega.{arith}
 use lib.Bits.{bit_or, bit_xor, and_le_l, and_le_r, or_zero_l, or_add_and, xor_self, xor_add_and}
 use lib.Dec.{eqb, ltb}
-use borrow.Author.Tests.{lt-ltb, le-ltb, eq-eqb, ne_eqb}
+use borrow.Author.Tests.{le-ltb, eq-eqb, ne_eqb}
 
 -- more blocks are shared than `most`, or as many and it is nearer than `near`
 module _ (most shares away near : ℕ) where
-  pub closer_more : most < shares → true ≡ (ltb most shares || (eqb most shares && ltb away near))
-  closer_more l = rw (lt-ltb most shares l)
-
-  pub closer_fewer : shares < most → false ≡ (ltb most shares || (eqb most shares && ltb away near))
-  closer_fewer l = rw (le-ltb most shares (omega arith), ne_eqb most shares (λ e. absurd (omega arith)))
-
   pub closer_by_misses : most ≤ shares → shares ≤ most → ltb away near ≡ (ltb most shares || (eqb most shares && ltb away near))
   closer_by_misses k l = rw (le-ltb most shares l, eq-eqb most shares (le_antisymm k l))
 

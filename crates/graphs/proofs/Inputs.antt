@@ -146,17 +146,6 @@ listing_long = text_long 262144 (omega arith) listing_of_numbers numbers_long
 
 -- ---- the rooms
 
-pub graph_rooms_long : (a b c d e : ℕ) → room_for_graph a b c d e ≡ true → (16384 ≤ a) × (64 ≤ b) × (4096 ≤ c) × (4032 ≤ d)
-graph_rooms_long a b c d e h =
-    let four = and_left (leb 16384 a && leb 64 b && leb 4096 c && leb 4032 d) (leb 262144 e) h in
-    let three = and_left (leb 16384 a && leb 64 b && leb 4096 c) (leb 4032 d) four in
-    let two = and_left (leb 16384 a && leb 64 b) (leb 4096 c) three in (
-      leb-true 16384 a (and_left (leb 16384 a) (leb 64 b) two),
-      leb-true 64 b (and_right (leb 16384 a) (leb 64 b) two),
-      leb-true 4096 c (and_right (leb 16384 a && leb 64 b) (leb 4096 c) three),
-      leb-true 4032 d (and_right (leb 16384 a && leb 64 b && leb 4096 c) (leb 4032 d) four),
-    )
-
 output_long : (a b c d e : ℕ) → room_for_graph a b c d e ≡ true → 262144 ≤ e
 output_long a b c d e h = leb-true 262144 e (and_right (leb 16384 a && leb 64 b && leb 4096 c && leb 4032 d) (leb 262144 e) h)
 
