@@ -9,8 +9,8 @@
  *
  * A call keeps no state: nothing is left of it but what it wrote to the memory that it was lent. So the functions are reentrant, and calls may run at the same
  * time, in threads or one interrupting another, as long as what each is lent for writing is lent to it alone. They use no heap, and no memory but what they
- * are lent and the stack, of which 8,192 bytes are enough: only those below estimate_listing call each other, 8 deep at most, and a painted stack showed 2,968 bytes for
- * the graph call, 712 for the best case, 3,320 for a curve's text, 2,448 for a listing 8 deep, 5,688 for a question put to a row of states and 5,816 for the deepest, the nightly
+ * are lent and the stack, of which 8,192 bytes are enough: only those below estimate_listing call each other, 8 deep at most, and a painted stack showed 3,016 bytes for
+ * the graph call, 776 for the best case, 3,384 for a curve's text, 2,432 for a listing 8 deep, 5,656 for a question put to a row of states and 5,896 for the deepest, the nightly
  * build, on each of the large inputs that were tried.
  *
  * Linked from libestimate_c.a, for x86-64, which takes of the C library only memcpy and memset. `rt lib` in crates/estimate_c makes it:

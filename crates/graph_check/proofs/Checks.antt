@@ -1,26 +1,23 @@
--- What the chains, the loops and the early returns of the checks compute. A chain goes through a list, through the edges in chunks of two, or through the node numbers; the
--- definitions are the library's words on what it goes through. A loop goes from the front, and what is left always gives the same answer as the whole, w.
+-- What the chains, the loops and the early returns of the checks compute. A chain goes through a list, or through the edges in chunks of two; the definitions are the
+-- library's words on what it goes through. A loop goes through the edges from the front, or through the node numbers from the top, and what is left always gives the same
+-- answer as the whole, w.
 use mathlib.Core.Path.{◌≡◌, refl, sym, ap, ◌∙◌}
 use mathlib.Core.Logic.{◌≢◌}
-use mathlib.Core.Bool.{Bool, true, false, ◌&&◌, ◌||◌, and-false, true≢false}
+use mathlib.Core.Bool.{Bool, true, false, ◌&&◌, ◌||◌}
 use mathlib.Core.List.{List, [], ◌∷◌, ◌++◌, map}
 use Prim.Native.Nat.{ℕ, zero, suc, ◌+◌, ◌-◌, ◌*◌, ◌/◌, ◌%◌, ◌≤◌, ◌<◌}
-use native.Mathlib.Nat.{add-zero}
 use native.Mathlib.Numerals.{add-one, add-two}
 use native.Mathlib.Omega.{arith}
-use native.Mathlib.Decide.{ℕ_discrete}
 use borrow.Author.Tests.{eq-eqb, ne_eqb}
 use lib.Dec.{eqb, ltb}
 use lib.ListN.{length, get_or, drop, length-drop}
 use lib.Seq.{drop-cons}
 use Rattle.std.specs.declared.slice.ChunksExact.{ChunksExact}
 use Rattle.std.specs.Slice.Iter.{chunks_exact_rest, chunks_exact_size, chunks_exact_steps}
-use Rattle.std.specs.List.{list_any, list_all, sum, range_with_len}
+use Rattle.std.specs.List.{list_any, list_all, sum}
 use Rattle.std.proofs.lemmas.Iterator.{YieldsList}
 use Rattle.std.proofs.lemmas.Iterator.Splits.{YieldsList-from_shown_while}
-use Rattle.std.proofs.lemmas.List.FromFn.{length-range_with_len, get_or-range_with_len}
-use Rattle.std.proofs.lemmas.List.Recursion.{same_from_clauses, is_sum_by, and_at}
-use Rattle.basics.proofs.Bools.{or_left, or_right}
+use Rattle.std.proofs.lemmas.List.Recursion.{same_from_clauses, is_sum_by}
 use Rattle.basics.specs.Sums.{sum_over}
 use Rattle.rules.specs.Contents.{among, all_tracked}
 use Rattle.rules.specs.Ordered.{is_before, rises}
@@ -117,65 +114,30 @@ module _ (ns : List ℕ) (e : ℕ) (w : Bool) (rest : rises edge_order (edges_of
 
 -- ---- through the node numbers
 
-each_passes : (test : ℕ → Bool) (n : ℕ) → ((k : ℕ) → k < n → test k ≡ true) → each_below n test ≡ true
-each_passes test zero h = refl
-each_passes test (suc n) h = rw (h n (omega arith)) (each_passes test n (λ k l. h k (omega arith)))
+-- from the top: with the highest that is left, those below it have to pass; and where it fails, not all do
+module _ (test : ℕ → Bool) (j : ℕ) (w : Bool) (rest : each_below j test ≡ w) where
+  below_next : 0 < j → (test (j - 1) && each_below (j - 1) test) ≡ w
+  below_next h = let top : suc (j - 1) ≡ j = omega arith in rw (← top) at rest
 
-one_fails : (test : ℕ → Bool) (n k : ℕ) → k < n → test k ≡ false → each_below n test ≡ false
-one_fails test zero k l h = absurd (omega arith)
-one_fails test (suc n) k l h = elim (ℕ_discrete k n) [
-  | yes e ↦ rw (← e, h)
-  | no e ↦ rw (one_fails test n k (omega arith) h) (and-false (test n))
-]
+  pub below_on : 0 < j → test (j - 1) ≡ true → each_below (j - 1) test ≡ w
+  below_on h t = rw t at (below_next h)
 
--- m numbers from a on pass a test, or one of them fails it
-range_passes : (test : ℕ → Bool) (a m : ℕ) → list_all test (range_with_len a m) ≡ true → (k : ℕ) → k < m → test (a + k) ≡ true
-range_passes test a m e k l =
-    rw (get_or-range_with_len a m k 0 l) at
-    (and_at (list_all test) test refl (λ _ _. refl) (range_with_len a m) k 0 (omega (arith, length-range_with_len a m)) e)
+  pub below_fails : 0 < j → test (j - 1) ≡ false → false ≡ w
+  below_fails h t = rw t at (below_next h)
 
-range_fails : (test : ℕ → Bool) (a m : ℕ) → list_all test (range_with_len a m) ≡ false → (k : ℕ) × (k < m) × (test (a + k) ≡ false)
-range_fails test a zero e = absurd (true≢false e)
-range_fails test a (suc m) e = go (range_fails test (a + 1) m) (test a) refl
-  where
-    go : (list_all test (range_with_len (a + 1) m) ≡ false → (k : ℕ) × (k < m) × (test (a + 1 + k) ≡ false)) → (b : Bool) → test a ≡ b → (k : ℕ) × (k < suc m) × (test (a + k) ≡ false)
-    go rest false h = (0, omega arith, rw (add-zero a) h)
-    go rest true h =
-        let w = rest (rw h at e) in
-        let further : a + suc w.0 ≡ a + 1 + w.0 = omega arith in
-        (suc w.0, omega (arith, w.1), rw further w.2)
+  pub below_none : j ≡ 0 → true ≡ w
+  below_none e = rw e at rest
 
--- r says whether each node below n passes a test
-every_node : (test : ℕ → Bool) (n : ℕ) (r : Bool) → (r ≡ true → (k : ℕ) → k < n → test k ≡ true) → (r ≡ false → (k : ℕ) × (k < n) × (test k ≡ false)) → r ≡ each_below n test
-every_node test n true holds fails = sym (each_passes test n (holds refl))
-every_node test n false holds fails = let w = fails refl in sym (one_fails test n w.0 w.1 w.2)
+-- down to node 0, if that passes
+pub below_end : (test : ℕ → Bool) (j : ℕ) (w : Bool) → each_below j test ≡ w → j ≤ 1 → test 0 ≡ true → true ≡ w
+below_end test zero w rest h t = rest
+below_end test (suc zero) w rest h t = rw t at rest
+below_end test (suc (suc j)) w rest h t = absurd (omega arith)
 
--- every node but the first, and every node but the last
-pub all_but_first : (test : ℕ → Bool) (n : ℕ) → list_all test (range_with_len 1 (n - 1)) ≡ each_below n (λ j. eqb j 0 || test j)
-all_but_first test n =
-    every_node (λ j. eqb j 0 || test j) n _ holds
-    (λ e. let w = range_fails test 1 (n - 1) e in (1 + w.0, omega (arith, w.1), rw (ne_eqb (1 + w.0) 0 (λ z. omega arith), w.2)))
-  where
-    holds : list_all test (range_with_len 1 (n - 1)) ≡ true → (k : ℕ) → k < n → (eqb k 0 || test k) ≡ true
-    holds e zero h = refl
-    holds e (suc k) h =
-        let next : 1 + k ≡ suc k = omega arith in
-        or_right (eqb (suc k) 0) (test (suc k)) (rw next at (range_passes test 1 (n - 1) e k (omega arith)))
-
-pub all_but_last : (test : ℕ → Bool) (n : ℕ) → list_all (λ j. test (j - 1)) (range_with_len 1 (n - 1)) ≡ each_below n (λ j. eqb (suc j) n || test j)
-all_but_last test n =
-    every_node (λ j. eqb (suc j) n || test j) n _ (λ e k h. holds e k h (ℕ_discrete (suc k) n))
-    (λ e.
-    let w = range_fails (λ j. test (j - 1)) 1 (n - 1) e in
-    let back : 1 + w.0 - 1 ≡ w.0 = omega arith in
-    (w.0, omega (arith, w.1), rw (ne_eqb (suc w.0) n (λ z. omega (arith, w.1))) (rw back at w.2)))
-  where
-    holds : list_all (λ j. test (j - 1)) (range_with_len 1 (n - 1)) ≡ true → (k : ℕ) → k < n → Dec (suc k ≡ n) → (eqb (suc k) n || test k) ≡ true
-    holds e k h (yes z) = or_left (eqb (suc k) n) (test k) (eq-eqb (suc k) n z)
-    holds e k h (no z) =
-        let back : 1 + k - 1 ≡ k = omega arith in
-        let less : k < n - 1 = omega arith in
-        or_right (eqb (suc k) n) (test k) (rw back at (range_passes (λ j. test (j - 1)) 1 (n - 1) e k less))
+-- the last of n nodes is not asked
+pub but_last : (test : ℕ → Bool) (n : ℕ) → each_below (n - 1) (λ j. eqb (suc j) n || test j) ≡ each_below n (λ j. eqb (suc j) n || test j)
+but_last test zero = refl
+but_last test (suc n) = let below : suc n - 1 ≡ n = omega arith in rw (below, eq-eqb (suc n) (suc n) refl)
 
 -- ---- the edge rules together
 

@@ -22,11 +22,11 @@ pub fn outside(low: u64, high: u64, n: u64) -> bool
 }
 
 // Whether `list` has `b`.
-#[tactic(auto, using(crate::proofs::Checks::among_any))]
 fn among(list: &[u32], b: u32) -> bool
     ensures { result ≡ among list.now b }
 {
-    list.contains(&b)
+    // as far as the first that is: `contains` looks at several at a time, and a list may be long
+    list.iter().any(|n| *n == b)
 }
 
 // Whether `sets` is one of the set counts that there are.
@@ -92,18 +92,28 @@ fn ends(edges: &[u32], side: usize, j: usize) -> bool
     edges.chunks_exact(2).any(|edge| edge[side] as usize == j)
 }
 
-// Whether each of the `n` nodes but node 0 has an edge in.
+// Whether each of the `n` nodes but node 0 has an edge in, from the top.
 fn has_edge_in(edges: &[u32], n: usize) -> bool
     ensures { result ≡ has_edge_in n (edges_of edges.now) }
 {
-    (1..n).all(|j| ends(edges, 1, j))
+    for j in (1..n).rev() {
+        if !ends(edges, 1, j) {
+            return false;
+        }
+    }
+    true
 }
 
-// Whether each of the `n` nodes but the last has an edge out.
+// Whether each of the `n` nodes but the last has an edge out, from the top.
 fn has_edge_out(edges: &[u32], n: usize) -> bool
     ensures { result ≡ has_edge_out n (edges_of edges.now) }
 {
-    (1..n).all(|j| ends(edges, 0, j - 1))
+    for j in (1..n).rev() {
+        if !ends(edges, 0, j - 1) {
+            return false;
+        }
+    }
+    true
 }
 
 // Whether the flat list of edges of a graph of `n` nodes keeps every edge rule.

@@ -25,6 +25,17 @@ any_default [] i a b l = absurd (not-suc-le-zero l)
 any_default (w ∷ ws) zero a b l = refl
 any_default (w ∷ ws) (suc i) a b l = any_default ws i a b (omega arith)
 
+-- units never go to a higher mask
+pub onward_most : (f n : ℕ) (ws : List ℕ) (C : ℕ) → onward f n ws C ≤ C
+unfolding onward
+onward_most zero n ws C = le_refl C
+onward_most (suc f) n ws C = go (ltb (get_or ws (n + C) C) C) refl (onward_most f n ws (get_or ws (n + C) C))
+  where
+    go : (b : Bool) → ltb (get_or ws (n + C) C) C ≡ b → onward f n ws (get_or ws (n + C) C) ≤ get_or ws (n + C) C
+        → cond b (onward f n ws (get_or ws (n + C) C)) C ≤ C
+    go true e l = omega (arith, ltb-true (get_or ws (n + C) C) C e)
+    go false e l = le_refl C
+
 pub onward_out : (f n : ℕ) (ws : List ℕ) (C : ℕ) → length ws ≤ n + C → C ≡ onward f n ws C
 unfolding onward
 onward_out zero n ws C l = refl

@@ -7,5 +7,6 @@ pub mod Lowest
 -- How a search goes on
 pub mod Seeking
 -- What a search finds
+pub mod Chosen
 -- What is found is document 01's choice
 pub mod Choosing

@@ -1,6 +1,5 @@
 // The fewest units of a table.
 ghost use Rattle.std.specs.Prelude.{◌+◌, ◌*◌, ◌≤◌, length};
-ghost use Rattle.rules.specs.Table.{state_at, units_of};
 ghost use Rattle.words.specs.Tables.{table_of};
 ghost use Rattle.searches.specs.Least.{Fewest, Lowest as LowestOf};
 
@@ -73,19 +72,4 @@ pub(crate) fn least(words: &[u64], n: usize) -> Lowest
         from,
         seen: n,
     }
-}
-
-// The first of `n` states that has no more units than the fewest, which are known.
-pub(crate) fn first_with(words: &[u64], n: usize, lowest: Lowest) -> usize
-    requires { (n * 5 ≤ length words.now) × LowestOf (table_of words.now) n lowest.units.0 lowest.from }
-    ensures { LowestOf (table_of words.now) n lowest.units.0 result × (units_of (state_at (table_of words.now) result) ≤ lowest.units.0) }
-{
-    let units = lowest.units;
-    for i in lowest.from..n {
-        let u = load(words, i).units;
-        if u.0 <= units.0 {
-            return i;
-        }
-    }
-    n
 }

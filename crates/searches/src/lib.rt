@@ -5,9 +5,11 @@ ghost use Rattle.std.specs.Prelude.{◌≡◌, ◌*◌, ◌≤◌, length};
 ghost use Rattle.words.specs.Tables.{table_of};
 ghost use Rattle.searches.specs.Searches.{chosen, sought};
 
-use crate::fewest::{first_with, least};
+use crate::fewest::least;
 use crate::memory::load;
-use crate::partner::partner_of;
+use crate::partner::{nearest, nearest_of_all, stands_first};
+use folding::partner::is_alike;
+use tables::size_of;
 
 mod fewest;
 mod memory;
@@ -26,11 +28,34 @@ fn search(words: &[u64], n: usize) -> Two
     requires { (2 ≤ n) × (n * 5 ≤ length words.now) }
     ensures { result ≡ chosen n (table_of words.now) }
 {
-    let fewest = first_with(words, n, least(words, n));
-    Two {
-        fewest,
-        partner: partner_of(words, n, fewest, load(words, fewest)),
-    }
+    let lowest = least(words, n);
+    let units = lowest.units;
+    let mut fewest = lowest.from;
+    // Kept as a loop: docs/DECISIONS.md ('May a function have two loops?') says this form, the search for the partner nested in that for the state.
+    let found = 'search: loop {
+        let s = load(words, fewest);
+        let u = s.units;
+        if units.0 < u.0 {
+            fewest += 1;
+        } else {
+            if !stands_first(words, fewest, s) {
+                break 'search Two {
+                    fewest,
+                    partner: nearest_of_all(words, n, fewest, s, size_of(s.mask)),
+                };
+            }
+            for j in fewest + 1..n {
+                if is_alike(s, load(words, j)) {
+                    break 'search Two { fewest, partner: j };
+                }
+            }
+            break 'search Two {
+                fewest,
+                partner: nearest(words, n, fewest, s),
+            };
+        }
+    };
+    found
 }
 
 // The two of the first `n` states of a table; places 0 and 0 where there are not so many, or fewer than two.

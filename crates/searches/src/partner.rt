@@ -1,15 +1,14 @@
-// The partner of a state in a fold: the first alike behind it, and what else can be the partner.
+// The partner of a state in a fold: the first alike behind it is sought by `search`, and what else can be the partner here.
 ghost use Rattle.std.specs.Prelude.{◌≡◌, cond, ◌||◌, ◌&&◌, not, ◌+◌, ◌*◌, ◌≤◌, ◌<◌, eqb, ltb, length};
 ghost use Rattle.rules.specs.Fold.{sharing as sharing_of, apart as apart_of};
 ghost use Rattle.rules.specs.Table.{state_at};
 ghost use Rattle.words.specs.Tables.{table_of};
-ghost use Rattle.searches.specs.Searches.{leads, holds_all, nearer, first_of_mask, first_holder, nearest_holder, nearest_of_all, nearest as nearest_to, first_alike, partner_of};
+ghost use Rattle.searches.specs.Searches.{leads, holds_all, nearer, first_of_mask, first_holder, nearest_holder, nearest_of_all, nearest as nearest_to};
 
 use crate::memory::load;
 use folding::none_nearer;
 use folding::partner::{apart, closer, holds_all, is_alike, is_unbeaten, one_fewer, sharing};
 use rules::State;
-use tables::size_of;
 
 // The first place of another state than the one at place `at`.
 pub(crate) fn first_other(at: usize) -> usize
@@ -155,33 +154,4 @@ pub(crate) fn nearest(words: &[u64], n: usize, at: usize, s: State) -> usize
         return nearest_holder(words, n, at, s, first);
     }
     nearest_of_all(words, n, at, s, one_fewer(s))
-}
-
-// The place of the first behind place `at`, of `n`, that is alike to `s`; `n` if there is none.
-pub(crate) fn first_alike(words: &[u64], n: usize, at: usize, s: State) -> usize
-    requires { (at < n) × (n * 5 ≤ length words.now) }
-    ensures { result ≡ first_alike n (table_of words.now) s at }
-{
-    for j in at + 1..n {
-        if is_alike(s, load(words, j)) {
-            return j;
-        }
-    }
-    n
-}
-
-// The partner of `s`, which stands at place `at` of `n`: the first alike behind it where none before it is alike, or else the nearest; and otherwise the best of
-// all.
-pub(crate) fn partner_of(words: &[u64], n: usize, at: usize, s: State) -> usize
-    requires { (2 ≤ n) × (at < n) × (n * 5 ≤ length words.now) }
-    ensures { result ≡ partner_of n (table_of words.now) s at }
-{
-    if !stands_first(words, at, s) {
-        return nearest_of_all(words, n, at, s, size_of(s.mask));
-    }
-    let alike = first_alike(words, n, at, s);
-    if alike < n {
-        return alike;
-    }
-    nearest(words, n, at, s)
 }

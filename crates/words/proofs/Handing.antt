@@ -1,16 +1,25 @@
--- Words handed over into a room of zeros: they are the words with zeros behind them.
+-- Words handed over: word by word into a room of zeros they are the words with zeros behind them.
 use mathlib.Core.Path.{◌≡◌, sym, ap, ap₂, ◌∙◌}
 use mathlib.Core.Bool.{true}
 use mathlib.Core.List.{List, ◌++◌}
-use Prim.Native.Nat.{ℕ, ◌+◌, ◌-◌, ◌≤◌}
+use Prim.Native.Nat.{ℕ, ◌+◌, ◌-◌, ◌≤◌, ◌<◌}
 use native.Mathlib.Nat.{zero-add}
+use native.Mathlib.Numerals.{add-one}
 use native.Mathlib.Omega.{arith}
 use borrow.Author.Tests.{leb-true, le-leb}
 use lib.Dec.{leb}
-use lib.ListN.{length, take, drop, replicate, length-replicate, replicate-append-replicate}
-use lib.Seq.{paste, drop_at}
+use lib.ListN.{length, get_or, set, take, drop, replicate, length-drop, length-replicate, replicate-append-replicate}
+use lib.Seq.{paste, paste-suc, get_or-drop, drop_at}
 use Rattle.basics.proofs.Bools.{both, and_left}
 use Rattle.words.specs.Handing.{goes_over, handed_over}
+
+-- one word more is carried
+pub carry_turn : (ws vs us us' : List ℕ) (from i : ℕ) → i < length ws → from + i < length vs → us ≡ paste ws 0 (drop from vs) i → us' ≡ set us i (get_or vs (from + i) 0)
+    → us' ≡ paste ws 0 (drop from vs) (i + 1)
+carry_turn ws vs us us' from i l k p q =
+    q ∙ rw (add-one i, p, ← get_or-drop from vs i 0)
+    (ap (λ (k : ℕ). set (paste ws 0 (drop from vs) i) k (get_or (drop from vs) i 0)) (sym (zero-add i))
+    ∙ paste-suc ws 0 (drop from vs) i 0 (omega arith) (omega (arith, length-drop from vs)))
 
 -- zeros behind what was written over zeros
 pub zeros_rest : (n k : ℕ) → k ≤ n → drop {A = ℕ} k (replicate n 0) ≡ replicate (n - k) 0

@@ -42,7 +42,10 @@ fn carry(res: &mut [u64], work: &[u64], from: usize, n: usize)
     requires { (n ≤ length res.old) × (from + n ≤ length work.now) }
     ensures { res.new ≡ paste res.old 0 (drop from work.now) n }
 {
-    res[..n].copy_from_slice(&work[from..from + n]);
+    // word by word: of copy_from_slice the compiler makes a call of memmove, which include/estimate.h says that the library for C does not need
+    for i in 0..n {
+        res[i] = work[from + i];
+    }
 }
 
 // Whether a room of `room` words has `n` words from word `from` on, and a result of `res` words has room for them.
