@@ -6,6 +6,7 @@ use mathlib.Core.Logic.{◌≢◌}
 use mathlib.Core.Bool.{Bool, true, false, ◌&&◌, ◌||◌}
 use mathlib.Core.List.{List, [], ◌∷◌, ◌++◌, map}
 use Prim.Native.Nat.{ℕ, zero, suc, ◌+◌, ◌-◌, ◌*◌, ◌/◌, ◌%◌, ◌≤◌, ◌<◌}
+use native.Mathlib.Nat.{add-zero}
 use native.Mathlib.Numerals.{add-one, add-two}
 use native.Mathlib.Omega.{arith}
 use borrow.Author.Tests.{eq-eqb, ne_eqb}
@@ -53,6 +54,12 @@ no_edges [] l = refl
 no_edges (a ∷ []) l = refl
 no_edges (a ∷ b ∷ ns) l = absurd (omega arith)
 
+-- the number on a side of that edge
+pub side_at : (ns : List ℕ) (e side : ℕ) → side ≤ 1 → get_or ns (e + side) 0 ≡ side_of side (edge_at ns e)
+side_at ns e zero h = rw (add-zero e)
+side_at ns e (suc zero) h = refl
+side_at ns e (suc (suc k)) h = absurd (omega arith)
+
 module _ {A : Type 0} (f : List Edge → A) (ns : List ℕ) (e : ℕ) (w : A) (rest : f (edges_of (drop e ns)) ≡ w) where
   pub edges_next : e + 1 < length ns → f (edge_at ns e ∷ edges_of (drop (e + 2) ns)) ≡ w
   edges_next h = rw (edges_at ns e h) at rest
@@ -83,8 +90,15 @@ edges_in_chunks s ns e two =
 pub all_forward : (n : ℕ) (es : List Edge) → list_all (λ e. ltb e.from e.to && ltb e.to n) es ≡ forward n es
 all_forward n es = same_from_clauses (list_all (λ e. ltb e.from e.to && ltb e.to n)) (forward n) (λ e r. ltb e.from e.to && ltb e.to n && r) refl (λ _ _. refl) (λ _ _. refl) es
 
-pub any_side : (side j : ℕ) (es : List Edge) → list_any (λ e. eqb (side_of side e) j) es ≡ among (map (side_of side) es) j
-any_side side j es = same_from_clauses (list_any (λ e. eqb (side_of side e) j)) (λ fs. among (map (side_of side) fs) j) (λ e r. eqb (side_of side e) j || r) refl (λ _ _. refl) (λ _ _. refl) es
+-- from edge e on: the number on a side of that edge, and those of the edges after it
+module _ (side j : ℕ) (ns : List ℕ) (e : ℕ) (w : Bool) (rest : among (map (side_of side) (edges_of (drop (e * 2) ns))) j ≡ w) where
+  pub side_next : side ≤ 1 → e < length ns / 2 → (eqb (get_or ns (e * 2 + side) 0) j || among (map (side_of side) (edges_of (drop ((e + 1) * 2) ns))) j) ≡ w
+  side_next one h =
+      let on : e * 2 + 2 ≡ (e + 1) * 2 = omega arith in
+      rw (← on, side_at ns (e * 2) side one) (edges_next (λ es. among (map (side_of side) es) j) ns (e * 2) w rest (omega arith))
+
+  pub side_end : length ns / 2 ≤ e → false ≡ w
+  side_end h = edges_end (λ es. among (map (side_of side) es) j) ns (e * 2) w rest (omega arith)
 
 -- ---- through the edges, each with the next
 

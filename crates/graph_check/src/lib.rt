@@ -89,7 +89,13 @@ fn ends(edges: &[u32], side: usize, j: usize) -> bool
     requires { side ≤ 1 }
     ensures { result ≡ among (map (side_of side) (edges_of edges.now)) j }
 {
-    edges.chunks_exact(2).any(|edge| edge[side] as usize == j)
+    // by number: a step of a chain over chunks of two is longer, and every node is looked for
+    for e in 0..edges.len() / 2 {
+        if edges[e * 2 + side] as usize == j {
+            return true;
+        }
+    }
+    false
 }
 
 // Whether each of the `n` nodes but node 0 has an edge in, from the top.

@@ -1,13 +1,19 @@
--- `ends` meets its contract: the test of an edge is the definition's.
-use Rattle.std.proofs.Common.{rules, tests, ◌∙◌, eqb}
-use Rattle.std.proofs.lemmas.Iterator.Search.{any_from_yields_List}
-use Rattle.rules.specs.Input.{edges_of}
-use Rattle.graph_check.specs.Edges.{side_of}
-use Rattle.graph_check.proofs.Checks.{edges_in_chunks, any_side}
+-- `ends` meets its contract: in a turn, by the number on that side of edge e and by the edges after it.
+use borrow.Author.Tests.{eq-eqb, ne_eqb}
+use Rattle.graph_check.proofs.Checks.{side_next, side_end}
 use Rattle.graph_check.proofs.ends.Goals as goal
+
+pub returns-then-edges-e : goal.returns-then-edges-e
+returns-then-edges-e c =
+    let a = c.args in
+    rw (eq-eqb _ _ c.if-edges-e.true) at (side_next a.side a.j a.edges.now c.loop-e.e _ c.loop-e.invariant c.requires c.loop-e-test.true)
+
+pub loop-e-preserved : goal.loop-e-preserved
+loop-e-preserved c =
+    let a = c.args in
+    rw (ne_eqb _ _ c.if-edges-e.false) at (side_next a.side a.j a.edges.now c.loop-e.e _ c.loop-e.invariant c.requires c.loop-e-test.true)
 
 pub returns : goal.returns
 returns c =
     let a = c.args in
-    any_from_yields_List (λ e. eqb (side_of a.side e) a.j) _ _ _ c.any.ensures.ran (edges_in_chunks _ a.edges.now (cc) (cc)) (λ x b q k. search (rules, tests))
-    ∙ any_side a.side a.j (edges_of a.edges.now)
+    side_end a.side a.j a.edges.now c.loop-e.e _ c.loop-e.invariant c.loop-e-test.false
