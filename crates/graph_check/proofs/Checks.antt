@@ -45,6 +45,12 @@ sums ns = is_sum_by (sum_over (λ n. n)) (λ n. n) refl (λ _ _. refl) ns
 abbrev pub edge_at : List ℕ → ℕ → Edge
 edge_at ns e = record { from = get_or ns e 0; to = get_or ns (e + 1) 0 }
 
+-- the number on a side of that edge
+pub side_at : (ns : List ℕ) (e side : ℕ) → side ≤ 1 → get_or ns (e + side) 0 ≡ side_of side (edge_at ns e)
+side_at ns e zero h = rw (add-zero e)
+side_at ns e (suc zero) h = refl
+side_at ns e (suc (suc k)) h = absurd (omega arith)
+
 edges_at : (ns : List ℕ) (e : ℕ) → e + 1 < length ns → edges_of (drop e ns) ≡ edge_at ns e ∷ edges_of (drop (e + 2) ns)
 edges_at ns e h =
     rw (add-two e, add-one e, drop-cons ns e 0 (omega arith), drop-cons ns (suc e) 0 (omega arith))
@@ -53,12 +59,6 @@ no_edges : (ns : List ℕ) → length ns ≤ 1 → edges_of ns ≡ []
 no_edges [] l = refl
 no_edges (a ∷ []) l = refl
 no_edges (a ∷ b ∷ ns) l = absurd (omega arith)
-
--- the number on a side of that edge
-pub side_at : (ns : List ℕ) (e side : ℕ) → side ≤ 1 → get_or ns (e + side) 0 ≡ side_of side (edge_at ns e)
-side_at ns e zero h = rw (add-zero e)
-side_at ns e (suc zero) h = refl
-side_at ns e (suc (suc k)) h = absurd (omega arith)
 
 module _ {A : Type 0} (f : List Edge → A) (ns : List ℕ) (e : ℕ) (w : A) (rest : f (edges_of (drop e ns)) ≡ w) where
   pub edges_next : e + 1 < length ns → f (edge_at ns e ∷ edges_of (drop (e + 2) ns)) ≡ w

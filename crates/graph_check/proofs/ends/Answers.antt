@@ -1,4 +1,4 @@
--- `ends` meets its contract: in a turn, by the number on that side of edge e and by the edges after it.
+-- `ends` meets its contract: in a turn, by the number on side `side` of edge e and by the edges after it.
 use borrow.Author.Tests.{eq-eqb, ne_eqb}
 use Rattle.graph_check.proofs.Checks.{side_next, side_end}
 use Rattle.graph_check.proofs.ends.Goals as goal

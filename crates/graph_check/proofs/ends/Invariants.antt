@@ -1,4 +1,4 @@
--- The node is on that side of some edge where it is on that side of one of those from edge e on.
+-- Node j is on side `side` of some edge where it is on that side of one of those from edge e on.
 use Rattle.std.proofs.Common.{◌≡◌, ◌*◌, map, drop}
 use Rattle.rules.specs.Contents.{among}
 use Rattle.rules.specs.Input.{edges_of}
